@@ -1,0 +1,12 @@
+-- Paper 01's fee classes, and the weight of each.
+use mathlib.Core.List.{List, [], _∷_}
+use Prim.Native.Nat.{ℕ, _-_}
+use lib.ListN.{getD}
+
+-- the weights of classes 1 to 8
+abbrev pub classWeights : List ℕ
+classWeights = 1 ∷ 2 ∷ 3 ∷ 5 ∷ 8 ∷ 12 ∷ 20 ∷ 40 ∷ []
+
+-- a class's weight; what is no class counts as 1
+unfoldable pub weightOf : ℕ → ℕ
+weightOf class = getD classWeights (class - 1) 1

@@ -1,0 +1,1 @@
+// Weights, and the two tests of an exchange path, on numbers.

@@ -1,0 +1,59 @@
+-- A book and a sheet as lists that hold the used entries alone, and what they are in the terms of the crate `fairness`.
+-- Seats and windows count from 0 here: seat i is paper 01's seat i + 1, window j its window j + 1.
+use mathlib.Core.Path.{_≡_}
+use mathlib.Core.List.{List, []}
+use Prim.Native.Nat.{ℕ, _<_}
+use lib.ListN.{length, getD}
+use Rattle.fairness.specs.Classes.{weightOf}
+use Rattle.fairness.specs.Instance.{Instance, Feasible, total}
+use Rattle.fairness.specs.Leximin.{table}
+
+-- a row for each seat, a number for each window
+abbrev pub Grid : Type 0
+Grid = List (List ℕ)
+
+-- the number of a seat and a window; 0 outside the grid
+abbrev pub cell : Grid → ℕ → ℕ → ℕ
+cell g i j = getD (getD g i []) j 0
+
+-- the grid has a row for each of n seats, and each row a number for each of m windows
+pub record Shaped (n m : ℕ) (g : Grid) : Type 0 where
+  pub rows : length g ≡ n
+  pub row : (i : ℕ) → i < n → length (getD g i []) ≡ m
+
+-- each seat's class, each window's supply, and the most each seat can use in each window
+pub record Book : Type 0 where
+  pub classes : List ℕ
+  pub supplies : List ℕ
+  pub caps : Grid
+
+abbrev pub seats : Book → ℕ
+seats b = length (b .classes)
+
+abbrev pub windows : Book → ℕ
+windows b = length (b .supplies)
+
+-- heights start from 0, and the seat rule goes by the seat's own number
+unfoldable pub instanceOf : Book → Instance
+instanceOf b =
+    record {
+      seats = seats b;
+      windows = windows b;
+      cap = cell (b .caps);
+      supply = λ j. getD (b .supplies) j 0;
+      weight = λ i. weightOf (getD (b .classes) i 0);
+      base = λ i. 0;
+      position = λ i. i;
+    }
+
+-- a sheet of the book: one cell per seat and window
+abbrev pub SheetOf : Book → Grid → Type 0
+SheetOf b s = Shaped (seats b) (windows b) s
+
+-- paper 01's lawful: no cell above its cap, no window's cells together above its supply
+abbrev pub Lawful : Book → Grid → Type 0
+Lawful b s = Feasible (instanceOf b) (cell s)
+
+-- each seat's total
+unfoldable pub totals : Book → Grid → List ℕ
+totals b s = table (seats b) (total (instanceOf b) (cell s))

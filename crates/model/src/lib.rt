@@ -1,0 +1,1 @@
+// The rules of paper 01 on lists: definitions and theorems.
