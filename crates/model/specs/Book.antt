@@ -1,12 +1,15 @@
 -- A book and a sheet as lists that hold the used entries alone, and what they are in the terms of the crate `fairness`.
 -- Seats and windows count from 0 here: seat i is paper 01's seat i + 1, window j its window j + 1.
 use mathlib.Core.Path.{_≡_}
+use mathlib.Core.Bool.{Bool, not, _&&_}
 use mathlib.Core.List.{List, []}
 use Prim.Native.Nat.{ℕ, _<_}
+use lib.Dec.{eqb, ltb}
 use lib.ListN.{length, getD}
 use Rattle.fairness.specs.Classes.{weightOf}
-use Rattle.fairness.specs.Instance.{Instance, Feasible, total}
+use Rattle.fairness.specs.Instance.{Instance, Feasible, placed, total}
 use Rattle.fairness.specs.Leximin.{table}
+use Rattle.model.specs.Lowest.{lowest, isSome}
 
 -- a row for each seat, a number for each window
 abbrev pub Grid : Type 0
@@ -53,6 +56,16 @@ SheetOf b s = Shaped (seats b) (windows b) s
 -- paper 01's lawful: no cell above its cap, no window's cells together above its supply
 abbrev pub Lawful : Book → Grid → Type 0
 Lawful b s = Feasible (instanceOf b) (cell s)
+
+-- the same two, as tests that compute: a sheet of the book, and a lawful one
+unfoldable pub isSheet : Book → Grid → Bool
+isSheet b s =
+    eqb (length s) (seats b) && not (isSome (lowest (seats b) (λ i. not (eqb (length (getD s i [])) (windows b)))))
+
+unfoldable pub isLawful : Book → Grid → Bool
+isLawful b s =
+    not (isSome (lowest (seats b) (λ i. isSome (lowest (windows b) (λ j. ltb (cell (b .caps) i j) (cell s i j))))))
+    && not (isSome (lowest (windows b) (λ j. ltb (getD (b .supplies) j 0) (placed (instanceOf b) (cell s) j))))
 
 -- each seat's total
 unfoldable pub totals : Book → Grid → List ℕ

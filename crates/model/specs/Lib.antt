@@ -3,3 +3,4 @@ pub mod Lowest
 pub mod Book
 pub mod Search
 pub mod Marks
+pub mod Examples

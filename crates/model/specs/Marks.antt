@@ -1,7 +1,7 @@
 -- The mark of a sheet: the first that holds of wasteful (1), improvable (2), tied (3), settled (4). Tied and settled pass.
-use mathlib.Core.Bool.{Bool, _&&_}
+use mathlib.Core.Bool.{Bool, true, false, _&&_}
 use mathlib.Core.Option.{Option, none, some}
-use Prim.Native.Nat.{ℕ}
+use Prim.Native.Nat.{ℕ, _+_}
 use lib.Dec.{ltb}
 use lib.ListN.{getD}
 use Rattle.fairness.specs.Instance.{placed}
@@ -34,3 +34,25 @@ module _ (b : Book) (s : Grid) where
       (orElse (andThen (search b s (improvesAt (instanceOf b) (cell s))) (λ f. some (improvable f)))
       (andThen (search b s (tiesAt (instanceOf b) (cell s))) (λ f. some (tied f)))))
       settled
+
+-- ---- paper 01's numbers and values of each mark
+
+-- seats and windows counted from 1; fields that a mark does not use are 0
+pub record Result : Type 0 where
+  pub mark : ℕ
+  pub window : ℕ
+  pub seat : ℕ
+  pub moves : ℕ
+
+abbrev pub resultOf : Mark → Result
+resultOf (wasteful j i) = record { mark = 1; window = j + 1; seat = i + 1; moves = 0 }
+resultOf (improvable f) = record { mark = 2; window = 0; seat = 0; moves = f .moves }
+resultOf (tied f) = record { mark = 3; window = 0; seat = 0; moves = f .moves }
+resultOf settled = record { mark = 4; window = 0; seat = 0; moves = 0 }
+
+-- marks 3 and 4 pass
+abbrev pub passes : Mark → Bool
+passes (wasteful j i) = false
+passes (improvable f) = false
+passes (tied f) = true
+passes settled = true

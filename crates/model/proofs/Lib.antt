@@ -1,0 +1,5 @@
+pub mod Tests
+pub mod Lowest
+pub mod Sets
+pub mod Books
+pub mod Examples

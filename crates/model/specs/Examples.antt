@@ -1,0 +1,82 @@
+-- Paper 01's starred examples, K1 to K10 and K12: a book, a sheet, its mark, the number of moves of the path that the mark
+-- reports, and the totals. Where paper 01 gives what is planned, the sheet is one with those totals, and settled.
+use mathlib.Core.Path.{_≡_}
+use mathlib.Core.List.{List, [], _∷_}
+use Prim.Native.Nat.{ℕ}
+use Rattle.model.specs.Book.{Book, Grid, SheetOf, Lawful, totals}
+use Rattle.model.specs.Marks.{markOf, resultOf}
+
+pub record Example : Type 0 where
+  pub book : Book
+  pub sheet : Grid
+  pub mark : ℕ
+  pub moves : ℕ
+  pub sums : List ℕ
+
+-- an example holds by the rules
+pub record Holds (e : Example) : Type 0 where
+  pub a-sheet : SheetOf (e .book) (e .sheet)
+  pub lawful : Lawful (e .book) (e .sheet)
+  pub marked : resultOf (markOf (e .book) (e .sheet)) .mark ≡ e .mark
+  pub counted : resultOf (markOf (e .book) (e .sheet)) .moves ≡ e .moves
+  pub summed : totals (e .book) (e .sheet) ≡ e .sums
+
+abbrev book : List ℕ → List ℕ → Grid → Book
+book classes supplies caps = record { classes = classes; supplies = supplies; caps = caps }
+
+abbrev example : Book → Grid → ℕ → ℕ → List ℕ → Example
+example b s mark moves sums = record { book = b; sheet = s; mark = mark; moves = moves; sums = sums }
+
+-- the books of K1, K3, K5, K7, K8, K9, K10 and K12
+abbrev k1 : Book
+k1 = book (1 ∷ 1 ∷ []) (4 ∷ 4 ∷ []) ((4 ∷ 0 ∷ []) ∷ (4 ∷ 4 ∷ []) ∷ [])
+
+abbrev k3 : Book
+k3 = book (1 ∷ 1 ∷ []) (3 ∷ []) ((3 ∷ []) ∷ (3 ∷ []) ∷ [])
+
+abbrev k5 : Book
+k5 = book (1 ∷ 2 ∷ []) (4 ∷ []) ((4 ∷ []) ∷ (4 ∷ []) ∷ [])
+
+abbrev k7 : Book
+k7 = book (2 ∷ 1 ∷ []) (1 ∷ []) ((1 ∷ []) ∷ (1 ∷ []) ∷ [])
+
+abbrev k8 : Book
+k8 = book (1 ∷ 1 ∷ 1 ∷ []) (1 ∷ 3 ∷ []) ((1 ∷ 0 ∷ []) ∷ (1 ∷ 2 ∷ []) ∷ (0 ∷ 3 ∷ []) ∷ [])
+
+abbrev k9 : Book
+k9 = book (1 ∷ []) (0 ∷ []) ((5 ∷ []) ∷ [])
+
+abbrev k10 : Book
+k10 = book (1 ∷ []) (3 ∷ []) ((2 ∷ []) ∷ [])
+
+abbrev k12 : Book
+k12 = book (1 ∷ 1 ∷ 1 ∷ []) (1 ∷ 2 ∷ []) ((1 ∷ 0 ∷ []) ∷ (1 ∷ 1 ∷ []) ∷ (0 ∷ 2 ∷ []) ∷ [])
+
+abbrev pub examples : List Example
+examples =
+    -- K1, planned
+    example k1 ((4 ∷ 0 ∷ []) ∷ (0 ∷ 4 ∷ []) ∷ []) 4 0 (4 ∷ 4 ∷ [])
+    -- K2
+    ∷ example k1 ((2 ∷ 0 ∷ []) ∷ (2 ∷ 4 ∷ []) ∷ []) 2 1 (2 ∷ 6 ∷ [])
+    -- K3, planned
+    ∷ example k3 ((2 ∷ []) ∷ (1 ∷ []) ∷ []) 4 0 (2 ∷ 1 ∷ [])
+    -- K4
+    ∷ example k3 ((1 ∷ []) ∷ (2 ∷ []) ∷ []) 3 1 (1 ∷ 2 ∷ [])
+    -- K5, planned
+    ∷ example k5 ((2 ∷ []) ∷ (2 ∷ []) ∷ []) 4 0 (2 ∷ 2 ∷ [])
+    -- K6
+    ∷ example k5 ((1 ∷ []) ∷ (3 ∷ []) ∷ []) 2 1 (1 ∷ 3 ∷ [])
+    -- K7, planned
+    ∷ example k7 ((0 ∷ []) ∷ (1 ∷ []) ∷ []) 4 0 (0 ∷ 1 ∷ [])
+    -- K8, the sheet and planned
+    ∷ example k8 ((0 ∷ 0 ∷ []) ∷ (1 ∷ 0 ∷ []) ∷ (0 ∷ 3 ∷ []) ∷ []) 2 2 (0 ∷ 1 ∷ 3 ∷ [])
+    ∷ example k8 ((1 ∷ 0 ∷ []) ∷ (0 ∷ 2 ∷ []) ∷ (0 ∷ 1 ∷ []) ∷ []) 4 0 (1 ∷ 2 ∷ 1 ∷ [])
+    -- K9
+    ∷ example k9 ((0 ∷ []) ∷ []) 4 0 (0 ∷ [])
+    -- K10, two sheets
+    ∷ example k10 ((1 ∷ []) ∷ []) 1 0 (1 ∷ [])
+    ∷ example k10 ((2 ∷ []) ∷ []) 4 0 (2 ∷ [])
+    -- K12, the sheet and planned
+    ∷ example k12 ((0 ∷ 0 ∷ []) ∷ (1 ∷ 0 ∷ []) ∷ (0 ∷ 2 ∷ []) ∷ []) 2 2 (0 ∷ 1 ∷ 2 ∷ [])
+    ∷ example k12 ((1 ∷ 0 ∷ []) ∷ (0 ∷ 1 ∷ []) ∷ (0 ∷ 1 ∷ []) ∷ []) 4 0 (1 ∷ 1 ∷ 1 ∷ [])
+    ∷ []
