@@ -4,3 +4,5 @@ pub mod Instance
 pub mod Classes
 pub mod Leximin
 pub mod Exchange
+pub mod Layers
+pub mod Cuts
