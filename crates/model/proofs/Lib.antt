@@ -2,4 +2,6 @@ pub mod Tests
 pub mod Lowest
 pub mod Sets
 pub mod Books
+pub mod Layers
+pub mod Meaning
 pub mod Examples

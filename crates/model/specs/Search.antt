@@ -1,12 +1,15 @@
 -- The search rule: which exchange path the marker reports. Sets of seats grow by layers, so all of it computes.
+use mathlib.Core.Path.{_≡_}
 use mathlib.Core.Bool.{Bool, true, false, _&&_, _||_}
 use mathlib.Core.List.{List, [], _∷_}
 use mathlib.Core.Option.{Option, none, some}
-use Prim.Native.Nat.{ℕ, zero, suc}
+use Prim.Native.Nat.{ℕ, zero, suc, _≤_, _<_}
 use lib.Dec.{eqb, ltb}
+use lib.ListN.{length}
 use Rattle.fairness.specs.Leximin.{table}
+use Rattle.fairness.specs.Exchange.{Move, Path}
 use Rattle.model.specs.Lowest.{lowest, isSome, andThen}
-use Rattle.model.specs.Book.{Book, Grid, cell, seats, windows}
+use Rattle.model.specs.Book.{Book, Grid, cell, seats, windows, instanceOf}
 
 -- a path that a search reports: its receiver (gainer), its donor (loser) and its number of moves
 pub record Found : Type 0 where
@@ -73,3 +76,25 @@ module _ (b : Book) (s : Grid) where
     search =
         andThen firstReceiver
         (λ g. andThen (donorOf g) (λ l. andThen (fewest g l) (λ r. some (record { receiver = g; donor = l; moves = r }))))
+
+-- ---- what the search stands for: paper 01's rule in words, without layers (the two are proved equal in proofs/Meaning.antt)
+
+module _ (b : Book) (s : Grid) where
+  -- an exchange path on the sheet as handed in
+  abbrev pub PathOn : ℕ → ℕ → List Move → Type 0
+  PathOn g l ms = Path (instanceOf b) (cell s) g l ms
+
+  -- some path from g to l has r moves, and none has fewer
+  pub record Shortest (g l r : ℕ) : Type 0 where
+    pub moves : List Move
+    pub path : PathOn g l moves
+    pub count : length moves ≡ r
+    pub least : (ms : List Move) → PathOn g l ms → r ≤ length ms
+
+  -- the first receiver that has a path which passes the test, its lowest donor, and the fewest moves between the two
+  pub record Picked (test : ℕ → ℕ → Bool) (f : Found) : Type 0 where
+    pub seat : f .receiver < seats b
+    pub passes : test (f .receiver) (f .donor) ≡ true
+    pub shortest : Shortest (f .receiver) (f .donor) (f .moves)
+    pub lowest-donor : (l : ℕ) (ms : List Move) → l < f .donor → PathOn (f .receiver) l ms → test (f .receiver) l ≡ false
+    pub first-receiver : (g l : ℕ) (ms : List Move) → g < f .receiver → PathOn g l ms → test g l ≡ false
