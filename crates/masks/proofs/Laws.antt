@@ -1,0 +1,135 @@
+-- The laws of sets of seats. A proof about sets cites these and goes no deeper.
+use mathlib.Core.Path.{_≡_, refl, ap, sym}
+use mathlib.Core.Logic.{_≢_}
+use Prim.Native.Nat.{ℕ, zero, suc, _+_, _-_, _/_, _%_, _^_, _<_, _≤_}
+use native.Mathlib.Nat.{pow-suc}
+use native.Mathlib.Decide.{ℕ-discrete, decLt}
+use native.Mathlib.Omega.{arith}
+use Rattle.masks.specs.Sets.{bit, In, Within, countBelow, sizeOf, Inserted, Removed, Lowest, Full}
+
+-- ---- members
+
+pub bit-lt : (m i : ℕ) → bit m i < 2
+unfolding bit
+bit-lt m zero = omega arith
+bit-lt m (suc i) = bit-lt (m / 2) i
+
+-- the empty set has no member
+pub bit-zero : (i : ℕ) → bit 0 i ≡ 0
+unfolding bit
+bit-zero zero = refl
+bit-zero (suc i) = bit-zero i
+
+-- a number of n digits has no member from n on
+pub bit-high : (n m i : ℕ) → m < 2 ^ n → n ≤ i → bit m i ≡ 0
+unfolding bit
+bit-high zero m i h l = let e : m ≡ 0 = omega arith in rw e (bit-zero i)
+bit-high (suc n) m zero h l = absurd (omega arith)
+bit-high (suc n) m (suc i) h l = bit-high n (m / 2) i (omega (arith, pow-suc 2 n)) (omega arith)
+
+-- a member of a mask of 32 bits is below 32
+pub in-small : (m i : ℕ) → m < 2 ^ 32 → In i m → i < 32
+in-small m i h e = elim (decLt i 32) [ yes l ↦ l | no l ↦ absurd (omega (arith, bit-high 32 m i h (omega arith))) ]
+
+-- a set with a member is not empty
+pub in-pos : (m i : ℕ) → In i m → 0 < m
+unfolding bit
+in-pos m zero e = omega arith
+in-pos m (suc i) e = omega (arith, in-pos (m / 2) i e)
+
+-- two numbers of n digits with the same digits are equal
+pub same-bits : (n a b : ℕ) → a < 2 ^ n → b < 2 ^ n → ((k : ℕ) → k < n → bit a k ≡ bit b k) → a ≡ b
+unfolding bit
+same-bits zero a b ha hb f = omega arith
+same-bits (suc n) a b ha hb f =
+    let p = pow-suc 2 n in
+    let rest : a / 2 ≡ b / 2 = same-bits n (a / 2) (b / 2) (omega arith) (omega arith) (λ k l. f (suc k) (omega arith)) in
+    omega (arith, f zero (omega arith))
+
+-- two sets with the same members are equal
+pub same-set : (a b : ℕ) → a < 2 ^ 32 → b < 2 ^ 32 → ((k : ℕ) → k < 32 → bit a k ≡ bit b k) → a ≡ b
+same-set a b = same-bits 32 a b
+
+-- a set without members is empty
+pub no-members : (m : ℕ) → m < 2 ^ 32 → ((k : ℕ) → k < 32 → bit m k ≡ 0) → m ≡ 0
+no-members m h f = same-set m 0 h (omega arith) (λ k l. omega (arith, f k l, bit-zero k))
+
+-- a set has one lowest member
+pub lowest-one : (m r s : ℕ) → Lowest m r → Lowest m s → r ≡ s
+lowest-one m r s p q =
+    elim (decLt r s) [
+      | yes l ↦ absurd (omega (arith, p .here, q .least r l))
+      | no l ↦ elim (decLt s r) [ yes k ↦ absurd (omega (arith, q .here, p .least s k)) | no k ↦ omega arith ]
+    ]
+
+-- ---- sizes
+
+pub count-le : (n m : ℕ) → countBelow n m ≤ n
+unfolding countBelow
+count-le zero m = omega arith
+count-le (suc n) m = omega (arith, count-le n m, bit-lt m n)
+
+-- the part of a set below n has no more members than that of a set that it is within
+pub count-mono : (n a b : ℕ) → ((k : ℕ) → k < n → bit a k ≤ bit b k) → countBelow n a ≤ countBelow n b
+unfolding countBelow
+count-mono zero a b f = omega arith
+count-mono (suc n) a b f = omega (arith, f n (omega arith), count-mono n a b (λ k l. f k (omega arith)))
+
+-- the same but for j, which is in b and not in a: one more
+pub count-more : (n a b j : ℕ) → j < n → ((k : ℕ) → k ≢ j → bit b k ≡ bit a k) → bit b j ≡ bit a j + 1
+    → countBelow n b ≡ countBelow n a + 1
+unfolding countBelow
+count-more zero a b j l f e = absurd (omega arith)
+count-more (suc n) a b j l f e =
+    elim (ℕ-discrete j n) [
+      | yes q ↦
+          let up = count-mono n a b (λ k h. omega (arith, f k (omega arith))) in
+          let down = count-mono n b a (λ k h. omega (arith, f k (omega arith))) in
+          omega (arith, rw q at e)
+      | no q ↦ omega (arith, f n (λ p. q (sym p)), count-more n a b j (omega arith) f e)
+    ]
+
+-- within, and some j below n is in b and not in a: fewer
+pub count-less : (n a b j : ℕ) → j < n → ((k : ℕ) → k < n → bit a k ≤ bit b k) → bit a j < bit b j → countBelow n a < countBelow n b
+unfolding countBelow
+count-less zero a b j l f h = absurd (omega arith)
+count-less (suc n) a b j l f h =
+    elim (ℕ-discrete j n) [
+      | yes q ↦ omega (arith, rw q at h, count-mono n a b (λ k i. f k (omega arith)))
+      | no q ↦ omega (arith, f n (omega arith), count-less n a b j (omega arith) (λ k i. f k (omega arith)) h)
+    ]
+
+pub size-le : (m : ℕ) → sizeOf m ≤ 32
+size-le m = count-le 32 m
+
+-- a set within another is no larger
+pub within-size : (a b : ℕ) → Within a b → sizeOf a ≤ sizeOf b
+within-size a b f = count-mono 32 a b (λ k l. f k)
+
+-- and smaller, where a seat of the other is not in it
+pub within-less : (a b j : ℕ) → j < 32 → Within a b → bit a j < bit b j → sizeOf a < sizeOf b
+within-less a b j l f h = count-less 32 a b j l (λ k i. f k) h
+
+-- a seat that was not in the set comes in: one more. The measure of a loop that puts in one new seat a turn is 32 − size.
+pub inserted-grows : (m i r : ℕ) → i < 32 → bit m i ≡ 0 → Inserted m i r → sizeOf r ≡ sizeOf m + 1
+inserted-grows m i r l e s = count-more 32 m r i l (s .others) (omega (arith, s .here))
+
+-- a seat that was in the set goes: one less. The measure of a loop that takes a set's seats in turn is its size.
+pub removed-shrinks : (m i r : ℕ) → i < 32 → In i m → Removed m i r → sizeOf m ≡ sizeOf r + 1
+removed-shrinks m i r l e s = count-more 32 r m i l (λ k n. sym (s .others k n)) (omega (arith, s .here))
+
+count-full : (n k r : ℕ) → Full n r → k ≤ n → countBelow k r ≡ k
+unfolding countBelow
+count-full n zero r f l = refl
+count-full n (suc k) r f l = omega (arith, count-full n k r f (omega arith), f .inside k (omega arith))
+
+count-past : (n k r : ℕ) → Full n r → countBelow (n + k) r ≡ n
+unfolding countBelow
+count-past n zero r f = let e : n + 0 ≡ n = omega arith in rw e (count-full n n r f (omega arith))
+count-past n (suc k) r f =
+    let e : n + suc k ≡ suc (n + k) = omega arith in
+    rw e (omega (arith, count-past n k r f, f .outside (n + k) (omega arith)))
+
+-- all seats below n are n
+pub full-size : (n r : ℕ) → n ≤ 32 → Full n r → sizeOf r ≡ n
+full-size n r h f = let e : n + (32 - n) ≡ 32 = omega arith in rw e at (count-past n (32 - n) r f)
