@@ -4,4 +4,5 @@ pub mod Sets
 pub mod Books
 pub mod Layers
 pub mod Meaning
+pub mod Marks
 pub mod Examples

@@ -1,14 +1,14 @@
 -- The mark of a sheet: the first that holds of wasteful (1), improvable (2), tied (3), settled (4). Tied and settled pass.
 use mathlib.Core.Bool.{Bool, true, false, _&&_}
 use mathlib.Core.Option.{Option, none, some}
-use Prim.Native.Nat.{ℕ, _+_}
+use Prim.Native.Nat.{ℕ, _+_, _≤_, _<_}
 use lib.Dec.{ltb}
 use lib.ListN.{getD}
-use Rattle.fairness.specs.Instance.{placed}
-use Rattle.fairness.specs.Exchange.{improvesAt, tiesAt}
+use Rattle.fairness.specs.Instance.{placed, Wasteful}
+use Rattle.fairness.specs.Exchange.{improvesAt, tiesAt, Improvable, Tied}
 use Rattle.model.specs.Lowest.{lowest, isSome, orElse, andThen, getOr}
 use Rattle.model.specs.Book.{Book, Grid, cell, seats, windows, instanceOf}
-use Rattle.model.specs.Search.{Found, search}
+use Rattle.model.specs.Search.{Found, Picked, search}
 
 pub data Mark : Type 0 where
   -- a window with credits left, and a seat below its cap there
@@ -34,6 +34,28 @@ module _ (b : Book) (s : Grid) where
       (orElse (andThen (search b s (improvesAt (instanceOf b) (cell s))) (λ f. some (improvable f)))
       (andThen (search b s (tiesAt (instanceOf b) (cell s))) (λ f. some (tied f)))))
       settled
+
+-- ---- what each mark says (proved in proofs/Marks.antt)
+
+module _ (b : Book) (s : Grid) where
+  -- window j has credits left and seat i is below its cap there; the window is the lowest such, and the seat the lowest there
+  pub record Wasted (j i : ℕ) : Type 0 where
+    pub window : j < windows b
+    pub seat : i < seats b
+    pub left : placed (instanceOf b) (cell s) j < getD (b .supplies) j 0
+    pub room : cell s i j < cell (b .caps) i j
+    pub lowest-window : (w : Wasteful (instanceOf b) (cell s)) → j ≤ w .window
+    pub lowest-seat : (k : ℕ) → k < i → cell (b .caps) k j ≤ cell s k j
+
+  abbrev pub Marked : Mark → Type 0
+  Marked (wasteful j i) = Wasted j i
+  Marked (improvable f) = (Wasteful (instanceOf b) (cell s) → ⊥) × Picked b s (improvesAt (instanceOf b) (cell s)) f
+  Marked (tied f) =
+      (Wasteful (instanceOf b) (cell s) → ⊥)
+      × (Improvable (instanceOf b) (cell s) → ⊥) × Picked b s (tiesAt (instanceOf b) (cell s)) f
+  Marked settled =
+      (Wasteful (instanceOf b) (cell s) → ⊥)
+      × (Improvable (instanceOf b) (cell s) → ⊥) × (Tied (instanceOf b) (cell s) → ⊥)
 
 -- ---- paper 01's numbers and values of each mark
 
