@@ -1,8 +1,10 @@
 pub mod Tests
 pub mod Lowest
-pub mod Sets
+pub mod Grids
 pub mod Books
+pub mod Examples
+-- what the search and the marks mean
+pub mod Sets
 pub mod Layers
 pub mod Meaning
 pub mod Marks
-pub mod Examples

@@ -1,0 +1,74 @@
+-- Grids and functions: every sheet of functions is that of a grid, on the cells that are used. Assumes nothing.
+use mathlib.Core.Path.{_≡_, refl, sym, ap, ap₂, _∙_}
+use mathlib.Core.List.{List, [], _∷_}
+use Prim.Native.Nat.{ℕ, zero, suc, _+_, _≤_, _<_}
+use native.Mathlib.Nat.{le-trans, le-of-eq}
+use native.Mathlib.Omega.{arith}
+use lib.ListN.{length, getD}
+use Rattle.fairness.specs.Instance.{Instance, Sheet, Feasible, placed, total, height}
+use Rattle.fairness.specs.Leximin.{table, sort, NoHigher, noHigher?, levels, profile}
+use Rattle.fairness.proofs.Sums.{sum-eq}
+use Rattle.model.specs.Book.{Grid, cell, Shaped}
+
+-- ---- tables
+
+module _ {A : Type 0} where
+  pub table-length : (n : ℕ) (f : ℕ → A) → length (table n f) ≡ n
+  unfolding table
+  table-length zero f = refl
+  table-length (suc n) f = ap suc (table-length n (λ i. f (suc i)))
+
+  pub table-at : (n : ℕ) (f : ℕ → A) (i : ℕ) (d : A) → i < n → getD (table n f) i d ≡ f i
+  unfolding table
+  table-at zero f i d l = absurd (omega arith)
+  table-at (suc n) f zero d l = refl
+  table-at (suc n) f (suc i) d l = table-at n (λ k. f (suc k)) i d (omega arith)
+
+  pub table-same : (n : ℕ) (f g : ℕ → A) → ((i : ℕ) → i < n → f i ≡ g i) → table n f ≡ table n g
+  unfolding table
+  table-same zero f g e = refl
+  table-same (suc n) f g e =
+      ap₂ (λ x xs. x ∷ xs) (e 0 (omega arith)) (table-same n (λ i. f (suc i)) (λ i. g (suc i)) (λ i l. e (suc i) (omega arith)))
+
+-- ---- a grid of a function
+
+unfoldable pub gridOf : ℕ → ℕ → Sheet → Grid
+gridOf n m T = table n (λ i. table m (T i))
+
+pub gridOf-row : (n m : ℕ) (T : Sheet) (i : ℕ) → i < n → getD (gridOf n m T) i [] ≡ table m (T i)
+unfolding gridOf
+gridOf-row n m T i li = table-at n (λ i. table m (T i)) i [] li
+
+pub gridOf-cell : (n m : ℕ) (T : Sheet) (i j : ℕ) → i < n → j < m → cell (gridOf n m T) i j ≡ T i j
+gridOf-cell n m T i j li lj = ap (λ (r : List ℕ). getD r j 0) (gridOf-row n m T i li) ∙ table-at m (T i) j 0 lj
+
+pub gridOf-shaped : (n m : ℕ) (T : Sheet) → Shaped n m (gridOf n m T)
+unfolding gridOf
+gridOf-shaped n m T =
+    record { rows = table-length n (λ i. table m (T i)); row = λ i l. ap length (gridOf-row n m T i l) ∙ table-length m (T i) }
+
+-- ---- two sheets that agree on the cells that are used
+
+module _ (I : Instance) where
+  abbrev pub Agree : Sheet → Sheet → Type 0
+  Agree S T = (i j : ℕ) → i < I .seats → j < I .windows → S i j ≡ T i j
+
+  pub agree-placed : (S T : Sheet) → Agree S T → (j : ℕ) → j < I .windows → placed I S j ≡ placed I T j
+  agree-placed S T e j lj = sum-eq (I .seats) (λ i. S i j) (λ i. T i j) (λ i li. e i j li lj)
+
+  pub agree-total : (S T : Sheet) → Agree S T → (i : ℕ) → i < I .seats → total I S i ≡ total I T i
+  agree-total S T e i li = sum-eq (I .windows) (S i) (T i) (λ j lj. e i j li lj)
+
+  pub agree-feasible : (S T : Sheet) → Agree S T → Feasible I S → Feasible I T
+  agree-feasible S T e h =
+      record {
+        within = λ i j li lj. le-trans (le-of-eq (sym (e i j li lj))) (h .within i j li lj);
+        fits = λ j lj. le-trans (le-of-eq (sym (agree-placed S T e j lj))) (h .fits j lj);
+      }
+
+  pub agree-profile : (S T : Sheet) → Agree S T → profile I S ≡ profile I T
+  unfolding profile levels
+  agree-profile S T e =
+      ap (sort NoHigher noHigher?)
+      (table-same (I .seats) (λ i. (height I S i, I .weight i)) (λ i. (height I T i, I .weight i))
+      (λ i li. ap (λ (x : ℕ). (I .base i + x, I .weight i)) (agree-total S T e i li)))
