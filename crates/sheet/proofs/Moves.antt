@@ -9,7 +9,7 @@ use Rattle.fairness.specs.Instance.{Instance}
 use Rattle.fairness.specs.Exchange.{Move, play, Possible}
 use Rattle.model.specs.Book.{Grid, cell, Shaped}
 use Rattle.sheet.specs.declared.Sheet.{Sheet}
-use Rattle.sheet.specs.Sheets.{credit, gridOf, Playable, Written}
+use Rattle.sheet.specs.Sheets.{credit, gridOf, Playable, Moved, Written}
 use Rattle.sheet.proofs.Cells.{written, written-is, written-shaped, putIn, put-is, put-shaped}
 
 module _ (S T U : ℕ → ℕ → ℕ) (m : Move) where
@@ -87,8 +87,12 @@ module _ (g : Grid) (p : Shaped 32 24 g) (m : Move) (r : Playable (cell g) m) wh
   pub taker-le-in : cell given-in (m .taker) (m .window) ≤ cell g (m .taker) (m .window)
   taker-le-in = given-le (cell g) (cell given-in) (cell taken-in) m giving-in
 
-  pub move-is : (i j : ℕ) → cell taken-in i j ≡ play (cell g) m i j
+  pub move-is : Moved g m taken-in
   move-is =
       let shape = written-shaped 32 24 g p (m .giver) (m .window) _ (r .in-giver) (r .in-window) in
-      two-writes (cell g) (cell given-in) (cell taken-in) m (r .has) giving-in
-      (written-is 32 24 given-in shape (m .taker) (m .window) _ (r .in-taker) (r .in-window))
+      record {
+        shape = written-shaped 32 24 given-in shape (m .taker) (m .window) _ (r .in-taker) (r .in-window);
+        cells =
+            two-writes (cell g) (cell given-in) (cell taken-in) m (r .has) giving-in
+            (written-is 32 24 given-in shape (m .taker) (m .window) _ (r .in-taker) (r .in-window));
+      }

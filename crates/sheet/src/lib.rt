@@ -4,8 +4,8 @@ ghost use Prim.Native.Nat.{ℕ, _≤_, _<_};
 ghost use lib.ListN.{getD};
 ghost use Rattle.fairness.specs.Sums.{sum};
 ghost use Rattle.fairness.specs.Exchange.{play};
-ghost use Rattle.model.specs.Book.{cell};
-ghost use Rattle.sheet.specs.Sheets.{credit, gridOf, moveOf, Playable, Written};
+ghost use Rattle.model.specs.Book.{cell, Shaped};
+ghost use Rattle.sheet.specs.Sheets.{credit, gridOf, moveOf, Playable, Moved, Written};
 
 // A seat's cells, one for each window.
 pub struct Row {
@@ -134,10 +134,11 @@ impl Sheet {
     }
 }
 
-// A move on a bare array of arrays, in place.
+// A move on a bare array of arrays, in place. A reference does not tell an array's shape, so the caller does.
 pub fn move_in(grid: &mut [[u16; 24]; 32], m: Move)
+    requires { ⌜ Shaped 32 24 (now grid) ⌝ }
     requires { ⌜ Playable (cell (now grid)) (moveOf m) ⌝ }
-    ensures { λ _. ⌜ ((i j : ℕ) → cell (now (grid .exit)) i j ≡ play (cell (now (grid .entry))) (moveOf m) i j) ⌝ }
+    ensures { λ _. ⌜ Moved (now (grid .entry)) (moveOf m) (now (grid .exit)) ⌝ }
 {
     let w = m.window;
     let g = m.giver;

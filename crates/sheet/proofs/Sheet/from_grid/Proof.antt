@@ -1,50 +1,35 @@
+-- `sheet::Sheet::from_grid` meets its contract. Each turn copies one row.
 use borrow.Author.Needs.{needs}
+use Prim.Native.Nat.{_-_}
+use mathlib.Core.Path.{refl}
+use Rattle.sheet.specs.Sheets.{gridOf}
+use Rattle.sheet.proofs.Cells.{set-row}
+use Rattle.sheet.proofs.Copies.{Copied, first, next, last}
+use Rattle.sheet.proofs.Shapes.{Held, is-grid}
 use Rattle.sheet.proofs.Sheet.from_grid.Statement.{statement}
 use Rattle.sheet.proofs.Sheet.from_grid.Tie as tie
-use Rattle.sheet.proofs.Sheet.from_grid.Reads as reads
-use Rattle.sheet.proofs.Sheet.from_grid.Lts as lts
 
 abbrev Inv-loop : tie.InvT-loop
-Inv-loop grid sheet₀ i₀ sheet i = ?
+Inv-loop grid sheet₀ i₀ sheet i = Copied grid i (gridOf sheet)
 
 abbrev μ-loop : tie.MeasureT-loop
-μ-loop grid sheet₀ i₀ sheet i = ?
+μ-loop grid sheet₀ i₀ sheet i = 32 - i
 
--- src/lib.rt:130:9
 loop-holds : tie.Need-loop-holds Inv-loop μ-loop
-loop-holds c = search needs
+unfolding gridOf
+loop-holds c = first _ _ refl
 
--- src/lib.rt:131:36
-mul-t10 : tie.Need-mul-t10 Inv-loop μ-loop
-mul-t10 c = search needs
-
--- src/lib.rt:131:36
-array-copy-out-t13 : tie.Need-array-copy-out-t13 Inv-loop μ-loop
-array-copy-out-t13 c = search needs
-
--- src/lib.rt:132:13
-mul-row : tie.Need-mul-row Inv-loop μ-loop
-mul-row c = search needs
-
--- src/lib.rt:132:13
-element-set-from-row : tie.Need-element-set-from-row Inv-loop μ-loop
-element-set-from-row c = search needs
-
--- src/lib.rt:130:13
-add-i : tie.Need-add-i Inv-loop μ-loop
-add-i c = search needs
-
--- src/lib.rt:130:9
-loop-less : tie.Need-loop-less Inv-loop μ-loop
-loop-less c = search needs
-
--- src/lib.rt:130:9
 loop-again : tie.Need-loop-again Inv-loop μ-loop
-loop-again c = search needs
+loop-again c =
+    let l = c .before .before .loop in
+    rw (set-row (l .sheet) (l .i)) (next _ (l .i) (gridOf (l .sheet)) (l .inv) (search needs))
 
--- src/lib.rt:125:5
 returns : tie.Need-returns Inv-loop μ-loop
-returns c = search needs
+returns c =
+    let l = c .before .loop in
+    let g = c .before .before .args .t1 in
+    let h : Held g = search (needs, is-grid) in
+    last g (l .i) (gridOf (l .sheet)) (l .inv) (search needs) (h .shape .rows)
 
 pub from-grid-spec : {M : Type 1} → statement M
 from-grid-spec =
@@ -53,11 +38,11 @@ from-grid-spec =
     Inv-loop
     μ-loop
     loop-holds
-    mul-t10
-    array-copy-out-t13
-    mul-row
-    element-set-from-row
-    add-i
-    loop-less
+    (λ c. search needs)
+    (λ c. search needs)
+    (λ c. search needs)
+    (λ c. search needs)
+    (λ c. search needs)
+    (λ c. search needs)
     loop-again
     returns)

@@ -16,10 +16,15 @@ abbrev μ-loop : tie.MeasureT-loop
 μ-loop self grid₀ i₀ grid i = 32 - i
 
 loop-again : tie.Need-loop-again Inv-loop μ-loop
-loop-again c = ?
+loop-again c =
+    let l = c .before .before .before .loop in
+    rw (← row-is (c .before .before .before .before .args .t1) (l .i)) (next _ (l .i) (l .grid) (l .inv) (search needs))
 
 returns : tie.Need-returns Inv-loop μ-loop
-returns c = ?
+returns c =
+    let s = c .before .before .args .t1 in
+    let l = c .before .loop in
+    last (gridOf s) (l .i) (l .grid) (l .inv) (search needs) (shaped s _ (c .before .before .good .0) .shape .rows)
 
 pub to-grid-spec : {M : Type 1} → statement M
 to-grid-spec =
