@@ -73,11 +73,11 @@ module _ (I : Instance) (P : ℕ → Type 0) (in? : (i : ℕ) → Dec (P i)) whe
             min (I .supply j) (caps j) ≤ over in? (I .seats) (λ i. S i j)
         go (yes w) =
             let holders : placed I S j ≤ over in? (I .seats) (λ i. S i j) =
-                sum-le (I .seats) (λ i. S i j) _ (λ k l. kept (w .0) (w .1) (w .2 .0) (w .2 .1) k l (in? k)) in
+            sum-le (I .seats) (λ i. S i j) _ (λ k l. kept (w .0) (w .1) (w .2 .0) (w .2 .1) k l (in? k)) in
             omega (arith, used I S full (w .0) j (w .1) lj (w .2 .1))
         go (no q) =
             let at-caps : caps j ≤ over in? (I .seats) (λ i. S i j) =
-                sum-le (I .seats) _ _ (λ i l. keep-le (in? i) (I .cap i j) (S i j) (λ p. at i l p (decLt (S i j) (I .cap i j)))) in
+            sum-le (I .seats) _ _ (λ i l. keep-le (in? i) (I .cap i j) (S i j) (λ p. at i l p (decLt (S i j) (I .cap i j)))) in
             omega arith
           where
             at : (i : ℕ) → i < I .seats → P i → Dec (S i j < I .cap i j) → I .cap i j ≤ S i j

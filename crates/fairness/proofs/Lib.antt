@@ -7,11 +7,16 @@ pub mod Lists
 -- exchange paths: by layers, and played
 pub mod Walks
 pub mod Plays
--- what a sheet without certain paths has the most of
+-- what a sheet has the most of, where there is no path of some kind
 pub mod Cut
 pub mod Threshold
--- the potential of a sheet
 pub mod Lex
 pub mod Potential
+pub mod Unique
+-- profiles, and levels in whole units
+pub mod Sorting
+pub mod Units
+pub mod Levels
+pub mod Wanted
 -- what others cite
 pub mod Theorems

@@ -146,11 +146,10 @@ module _ (I : Instance) where
     play-rest : (k l : ℕ) (ns : List Move) → Linked k ns l → (k ≡ m .taker → ⊥) → All (λ y. m .taker ≡ y → ⊥) (givers ns) →
         All (λ y. m .giver ≡ y → ⊥) (givers ns) → All (Possible I S) ns → All (Possible I (play S m)) ns
     play-rest k l [] e t ts gs a = tt
-    play-rest k l (n ∷ ns) e t ts gs a =
-        (
-          play-possible n (λ c. t (sym (e .0) ∙ c)) (λ c. gs .0 (sym c)) (a .0),
-          play-rest (n .giver) l ns (e .1) (λ c. ts .0 (sym c)) (ts .1) (gs .1) (a .1),
-        )
+    play-rest k l (n ∷ ns) e t ts gs a = (
+      play-possible n (λ c. t (sym (e .0) ∙ c)) (λ c. gs .0 (sym c)) (a .0),
+      play-rest (n .giver) l ns (e .1) (λ c. ts .0 (sym c)) (ts .1) (gs .1) (a .1),
+    )
 
   -- ---- a path
 
