@@ -18,5 +18,12 @@ pub mod Sorting
 pub mod Units
 pub mod Levels
 pub mod Wanted
+pub mod Profiles
+-- the theorems, from the work above
+pub mod Optimal
+pub mod Progress
+pub mod Measure
+pub mod Settle
+pub mod Certificate
 -- what others cite
 pub mod Theorems

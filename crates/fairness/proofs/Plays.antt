@@ -46,7 +46,7 @@ module _ (I : Instance) where
   -- ---- one move
 
   module _ (S : Sheet) (m : Move) (p : Possible I S m) where
-    moved : (a b : ℕ) → play S m a b + hit (m .giver) (m .window) a b ≡ S a b + hit (m .taker) (m .window) a b
+    pub moved : (a b : ℕ) → play S m a b + hit (m .giver) (m .window) a b ≡ S a b + hit (m .taker) (m .window) a b
     unfolding play
     moved a b = go (S a b + hit (m .taker) (m .window) a b) (omega arith) (ℕ-discrete a (m .giver)) (ℕ-discrete b (m .window))
       where
@@ -55,7 +55,7 @@ module _ (I : Instance) where
         go x l (yes c) (no q) = omega arith
         go x l (no c) e = omega arith
 
-    play-placed : (b : ℕ) → placed I (play S m) b ≡ placed I S b
+    pub play-placed : (b : ℕ) → placed I (play S m) b ≡ placed I S b
     play-placed b =
         omega (
           arith,
@@ -66,7 +66,7 @@ module _ (I : Instance) where
           hit-column (I .seats) (m .taker) (m .window) b (p .in-taker),
         )
 
-    play-total : (a : ℕ) → total I (play S m) a + one (m .giver) a ≡ total I S a + one (m .taker) a
+    pub play-total : (a : ℕ) → total I (play S m) a + one (m .giver) a ≡ total I S a + one (m .taker) a
     play-total a =
         omega (
           arith,
@@ -77,7 +77,7 @@ module _ (I : Instance) where
           hit-row (I .windows) (m .taker) (m .window) a (p .in-window),
         )
 
-    play-feasible : Feasible I S → Feasible I (play S m)
+    pub play-feasible : Feasible I S → Feasible I (play S m)
     play-feasible f =
         record {
           within = λ a b la lb.
@@ -86,7 +86,7 @@ module _ (I : Instance) where
         }
 
     -- what is wasted after the move was wasted before it
-    play-wasteful : Wasteful I (play S m) → Wasteful I S
+    pub play-wasteful : Wasteful I (play S m) → Wasteful I S
     play-wasteful w = go (ℕ-discrete (w .window) (m .window))
       where
         left : placed I S (w .window) < I .supply (w .window)
@@ -120,7 +120,7 @@ module _ (I : Instance) where
             }
 
     -- another move stays possible, where its taker has not taken and its giver has not given
-    play-possible : (n : Move) → (n .taker ≡ m .taker → ⊥) → (n .giver ≡ m .giver → ⊥) → Possible I S n → Possible I (play S m) n
+    pub play-possible : (n : Move) → (n .taker ≡ m .taker → ⊥) → (n .giver ≡ m .giver → ⊥) → Possible I S n → Possible I (play S m) n
     play-possible n t g q =
         record {
           in-window = q .in-window;

@@ -105,6 +105,9 @@ module _ (I : Instance) (S : Sheet) where
   pub ties-apart : (g : ℕ) → tiesAt I S g g ≡ true → ⊥
   ties-apart g t = omega (arith, tiesAt-parts g g t .positions)
 
+  pub not-self : (test : ℕ → ℕ → Bool) → ((g : ℕ) → test g g ≡ true → ⊥) → (g l : ℕ) → test g l ≡ true → g ≡ l → ⊥
+  not-self test apart g l t e = apart l (subst (λ (x : ℕ). test x l ≡ true) e t)
+
   -- ---- the ends of a path
 
   donor-gives : (g l : ℕ) (m : Move) (ms : List Move) → Linked g (m ∷ ms) l → All (Possible I S) (m ∷ ms) →
@@ -114,7 +117,23 @@ module _ (I : Instance) (S : Sheet) where
       (a .0 .in-giver, omega (arith, a .0 .has, sum-term (I .windows) (λ j. S (m .giver) j) (m .window) (a .0 .in-window)))
   donor-gives g l m (n ∷ ms) e a = donor-gives (m .giver) l n ms (e .1) (a .1)
 
-  -- a receiver and a donor apart, with the donor's credit later by an order of credits
+  -- a receiver and a donor that a path leads between
+  pub record Ends (g l : ℕ) : Type 0 where
+    pub in-receiver : g < I .seats
+    pub in-donor : l < I .seats
+    pub gives : 0 < height I S l
+
+  pub path-ends : (g l : ℕ) (ms : List Move) → Path I S g l ms → (g ≡ l → ⊥) → Ends g l
+  path-ends g l [] p ne = absurd (ne (p .linked))
+  path-ends g l (m ∷ ms) p ne =
+      let d = donor-gives g l m ms (p .linked) (p .possible) in
+      record {
+        in-receiver = subst (λ (x : ℕ). x < I .seats) (p .linked .0) (p .possible .0 .in-taker);
+        in-donor = d .0;
+        gives = d .1;
+      }
+
+  -- the donor's last credit is later, by an order of credits, than the receiver's next
   pub record Wanted (R : Order) (g l : ℕ) : Type 0 where
     pub in-receiver : g < I .seats
     pub in-donor : l < I .seats
@@ -125,13 +144,12 @@ module _ (I : Instance) (S : Sheet) where
 
   path-wanted : (R : Order) (g l : ℕ) (ms : List Move) → Path I S g l ms → (g ≡ l → ⊥) →
       ((k : ℕ) → height I S l ≡ suc k → R g (height I S g) l k) → Wanted R g l
-  path-wanted R g l [] p ne r = absurd (ne (p .linked))
-  path-wanted R g l (m ∷ ms) p ne r =
-      let d = donor-gives g l m ms (p .linked) (p .possible) in
-      let e : height I S l ≡ suc (height I S l - 1) = omega (arith, d .1) in
+  path-wanted R g l ms p ne r =
+      let ends = path-ends g l ms p ne in
+      let e : height I S l ≡ suc (height I S l - 1) = omega (arith, ends .gives) in
       record {
-        in-receiver = subst (λ (x : ℕ). x < I .seats) (p .linked .0) (p .possible .0 .in-taker);
-        in-donor = d .0;
+        in-receiver = ends .in-receiver;
+        in-donor = ends .in-donor;
         apart = ne;
         rest = height I S l - 1;
         last = e;
@@ -141,9 +159,7 @@ module _ (I : Instance) (S : Sheet) where
   -- from a test to the order, for the ends of a path
   pub improves-wanted : (g l : ℕ) (ms : List Move) → Path I S g l ms → improvesAt I S g l ≡ true → Wanted (Prefers I) g l
   improves-wanted g l ms p t =
-      path-wanted (Prefers I) g l ms p
-      (λ e. improves-apart l (subst (λ (x : ℕ). improvesAt I S x l ≡ true) e t))
-      (λ k e. improvesAt-lex g l k e t)
+      path-wanted (Prefers I) g l ms p (not-self (improvesAt I S) improves-apart g l t) (λ k e. improvesAt-lex g l k e t)
 
   -- an improving credit goes before the other also where the seat rule decides the last ties
   prefers-precedes : (g a l b : ℕ) → Prefers I g a l b → Precedes I g a l b
@@ -153,19 +169,10 @@ module _ (I : Instance) (S : Sheet) where
   pub exchange-wanted : (g l : ℕ) (ms : List Move) → Path I S g l ms → (improvesAt I S g l ≡ true) ⊎ (tiesAt I S g l ≡ true) →
       Wanted (Precedes I) g l
   exchange-wanted g l ms p (inl t) =
-      let w = improves-wanted g l ms p t in
-      record {
-        in-receiver = w .in-receiver;
-        in-donor = w .in-donor;
-        apart = w .apart;
-        rest = w .rest;
-        last = w .last;
-        before = prefers-precedes g (height I S g) l (w .rest) (w .before);
-      }
+      path-wanted (Precedes I) g l ms p (not-self (improvesAt I S) improves-apart g l t)
+      (λ k e. prefers-precedes g (height I S g) l k (improvesAt-lex g l k e t))
   exchange-wanted g l ms p (inr t) =
-      path-wanted (Precedes I) g l ms p
-      (λ e. ties-apart l (subst (λ (x : ℕ). tiesAt I S x l ≡ true) e t))
-      (λ k e. tiesAt-lex g l k e t)
+      path-wanted (Precedes I) g l ms p (not-self (tiesAt I S) ties-apart g l t) (λ k e. tiesAt-lex g l k e t)
 
   -- ---- from the absence of exchanges to the orders
 
