@@ -5,6 +5,8 @@ use mathlib.Core.Bool.{Bool, true}
 use mathlib.Core.Logic.{_⊎_, inl, inr, _↔_}
 use mathlib.Core.List.{List, _∷_}
 use Prim.Native.Nat.{ℕ, suc, min, _+_, _≤_, _<_}
+use native.Mathlib.Nat.{lt-trans}
+use native.Mathlib.Omega.{arith}
 use lib.ListN.{length}
 use Rattle.fairness.specs.Sums.{sum, over}
 use Rattle.fairness.specs.Instance.{Instance, Proper, Sheet, Feasible, Wasteful, total, height, groupCapacity}
@@ -83,6 +85,13 @@ same-not-lower I S T s = same-not-higher I T S (same-symmetric I S T s)
 
 pub same-transitive : (I : Instance) → Proper I → (S T U : Sheet) → SameProfile I S T → SameProfile I T U → SameProfile I S U
 same-transitive = Profiles.same-transitive
+
+-- higher than higher is higher
+pub higher-transitive : (I : Instance) → Proper I → (S T U : Sheet) → Better I S T → Better I T U → Better I S U
+higher-transitive I proper S T U b c =
+    let N : ℕ = Profiles.bound I S + Profiles.bound I T + Profiles.bound I U in
+    Profiles.potential-Better I proper N S U (omega arith)
+    (lt-trans (Profiles.Better-potential I proper N T U (omega arith) c) (Profiles.Better-potential I proper N S T (omega arith) b))
 
 -- ---- exchange paths, played
 
@@ -163,6 +172,19 @@ module _ (I : Instance) (proper : Proper I) where
       go : SameProfile I S T ⊎ Better I S T → SameProfile I S T
       go (inl e) = e
       go (inr b) = absurd (highest-most S T s (t .feasible) b)
+
+  -- and a feasible sheet with a highest sheet's profile is highest
+  pub same-highest : (S T : Sheet) → Feasible I S → SameProfile I S T → Highest I T → Highest I S
+  same-highest S T feasible same h = record { feasible = feasible; most = λ U f. go U f (same-higher-lower I U S) }
+    where
+      go : (U : Sheet) → Feasible I U → SameProfile I U S ⊎ (Better I U S ⊎ Better I S U) → SameProfile I U S ⊎ Better I U S
+      go U f (inl e) = inl e
+      go U f (inr (inl b)) = inr b
+      go U f (inr (inr b)) = absurd (at (h .most U f))
+        where
+          at : SameProfile I U T ⊎ Better I U T → ⊥
+          at (inl e) = same-not-higher I S U (same-transitive I proper S T U same (same-symmetric I U T e)) b
+          at (inr c) = same-not-higher I S T same (higher-transitive I proper S U T b c)
 
   -- ---- settled sheets
 
