@@ -93,7 +93,7 @@ impl Sheet {
     // The sheet after a move. The giver and the taker may be one seat, and then nothing changes.
     pub fn play(mut self, m: Move) -> Sheet
         requires { ⌜ Playable (credit self) (moveOf m) ⌝ }
-        ensures { λ r. ⌜ ((i j : ℕ) → credit r i j ≡ play (credit self) (moveOf m) i j) ⌝ }
+        ensures { λ r. ⌜ credit r ≡ play (credit self) (moveOf m) ⌝ }
     {
         let w = m.window;
         let g = m.giver;
