@@ -9,7 +9,7 @@ use lib.Pow.{pow-lt, pow-pos, pow-mono, ones-lt}
 use lib.Bits.{bitAnd, bitOr, and-step, or-step, and-self}
 use lib.Count.{ones, ones-step, trailingZeros, under}
 use Rattle.masks.specs.Sets.{bit, In, countBelow, sizeOf, Inserted, Removed, Lowest, Full}
-use Rattle.masks.proofs.Laws.{bit-lt, bit-zero, bit-high, in-pos}
+use Rattle.masks.proofs.Laws.{bit-lt, bit-zero, bit-high, in-pos, removed-shrinks}
 
 -- ---- digit by digit
 
@@ -134,6 +134,10 @@ drop-lowest (suc l) m e f =
         → (k : ℕ) → k ≢ suc l → bit (bitAnd m (m - 1)) k ≡ bit m k
     others z q r zero d = omega (arith, and-step m (m - 1))
     others z q r (suc k) d = ap (λ (x : ℕ). bit x k) q ∙ r k (λ p. d (ap suc p))
+
+-- a turn of a loop that takes a set's lowest seat
+pub taken-shrinks : (m r : ℕ) → 0 < m → m < 2 ^ 32 → ((k : ℕ) → Lowest m k → Removed m k r) → sizeOf m ≡ sizeOf r + 1
+taken-shrinks m r p h f = let l = lowest-is m p h in removed-shrinks m _ r (l .small) (l .here) (f _ l)
 
 count-step : (n m : ℕ) → countBelow (suc n) m ≡ m % 2 + countBelow n (m / 2)
 unfolding bit countBelow

@@ -2,7 +2,7 @@
 use mathlib.Core.Path.{_≡_, refl, ap, sym, _∙_, fun-ext}
 use mathlib.Core.Logic.{_≢_}
 use mathlib.Core.List.{List, [], _∷_, map}
-use Prim.Native.Nat.{ℕ, zero, suc, _≤_, _<_, min}
+use Prim.Native.Nat.{ℕ, zero, suc, _≤_, _<_}
 use native.Mathlib.Decide.{ℕ-discrete}
 use native.Mathlib.Omega.{arith}
 use lib.ListN.{length, getD, set, take, replicate, length-set, length-take, length-map, List·getD-map}
@@ -62,6 +62,9 @@ row-used n m g i l =
 
 pub used-cell : (n m : ℕ) (g : Grid) (i j : ℕ) → i < n → j < m → cell (used n m g) i j ≡ cell g i j
 used-cell n m g i j l k = ap (λ (r : List ℕ). getD r j 0) (row-used n m g i l) ∙ getD-take m (getD g i []) j 0 k
+
+pub used-credit : (n m : ℕ) (s : Sheet) (i j : ℕ) → i < n → j < m → cell (used n m (gridOf s)) i j ≡ credit s i j
+used-credit n m s i j l k = used-cell n m (gridOf s) i j l k ∙ sym (credit-cell s i j)
 
 -- a seat's total, and a window's cells together
 pub used-total : (n m : ℕ) (g : Grid) (i : ℕ) → i < n → sum m (cell (used n m g) i) ≡ sum m (cell g i)

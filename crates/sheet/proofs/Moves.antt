@@ -1,5 +1,5 @@
 -- A move as two writes: the giver's cell is one less, then the taker's is one more.
-use mathlib.Core.Path.{_≡_, refl, ap, sym, _∙_}
+use mathlib.Core.Path.{_≡_, ap, sym, _∙_, fun-ext}
 use mathlib.Core.Logic.{_≢_}
 use Prim.Native.Nat.{ℕ, _+_, _-_, _≤_, _<_}
 use native.Mathlib.Decide.{ℕ-discrete}
@@ -25,24 +25,24 @@ module _ (S T U : ℕ → ℕ → ℕ) (m : Move) where
       ]
 
   two-writes : 0 < S (m .giver) w → Written S (m .giver) w (S (m .giver) w - 1) T → Written T (m .taker) w (T (m .taker) w + 1) U
-      → (i j : ℕ) → U i j ≡ play S m i j
+      → U ≡ play S m
   unfolding play
-  two-writes h p q i j = at (ℕ-discrete i (m .taker)) (ℕ-discrete i (m .giver)) (ℕ-discrete j w)
+  two-writes h p q = fun-ext (λ i. fun-ext (λ j. at i j (ℕ-discrete i (m .taker)) (ℕ-discrete i (m .giver)) (ℕ-discrete j w)))
     where
-      other : j ≢ w → U i j ≡ S i j
-      other d = q .windows i j d ∙ p .windows i j d
+      other : (i j : ℕ) → j ≢ w → U i j ≡ S i j
+      other i j d = q .windows i j d ∙ p .windows i j d
 
-      at : (t : Dec (i ≡ m .taker)) (g : Dec (i ≡ m .giver)) (b : Dec (j ≡ w))
+      at : (i j : ℕ) (t : Dec (i ≡ m .taker)) (g : Dec (i ≡ m .giver)) (b : Dec (j ≡ w))
           → U i j ≡ S i j + keep t (keep b 1) - keep g (keep b 1)
-      at (yes t) (yes g) (yes b) =
+      at i j (yes t) (yes g) (yes b) =
           let e : m .taker ≡ m .giver = sym t ∙ g in
           rw (t, b) (omega (arith, q .here, p .here, ap (λ (x : ℕ). T x w) e, ap (λ (x : ℕ). S x w) e))
-      at (yes t) (no g) (yes b) = rw (t, b) (omega (arith, q .here, p .seats (m .taker) w (λ e. g (t ∙ e))))
-      at (no t) (yes g) (yes b) = rw (g, b) (omega (arith, p .here, q .seats (m .giver) w (λ e. t (g ∙ e))))
-      at (no t) (no g) b = omega (arith, q .seats i j t, p .seats i j g)
-      at (yes t) (yes g) (no b) = omega (arith, other b)
-      at (yes t) (no g) (no b) = omega (arith, other b)
-      at (no t) (yes g) (no b) = omega (arith, other b)
+      at i j (yes t) (no g) (yes b) = rw (t, b) (omega (arith, q .here, p .seats (m .taker) w (λ e. g (t ∙ e))))
+      at i j (no t) (yes g) (yes b) = rw (g, b) (omega (arith, p .here, q .seats (m .giver) w (λ e. t (g ∙ e))))
+      at i j (no t) (no g) b = omega (arith, q .seats i j t, p .seats i j g)
+      at i j (yes t) (yes g) (no b) = omega (arith, other i j b)
+      at i j (yes t) (no g) (no b) = omega (arith, other i j b)
+      at i j (no t) (yes g) (no b) = omega (arith, other i j b)
 
 -- a possible move is playable, where the book fits the arrays
 pub playable : (I : Instance) (S : ℕ → ℕ → ℕ) (m : Move) → I .seats ≤ 32 → I .windows ≤ 24
@@ -68,7 +68,7 @@ module _ (s : Sheet) (p : Shaped 32 24 (gridOf s)) (m : Move) (r : Playable (cre
   pub taker-le : credit given (m .taker) (m .window) ≤ credit s (m .taker) (m .window)
   taker-le = given-le (credit s) (credit given) (credit taken) m giving
 
-  pub play-is : (i j : ℕ) → credit taken i j ≡ play (credit s) m i j
+  pub play-is : credit taken ≡ play (credit s) m
   play-is =
       let shape = put-shaped s p (m .giver) (m .window) _ (r .in-giver) (r .in-window) in
       two-writes (credit s) (credit given) (credit taken) m (r .has) giving

@@ -1,5 +1,5 @@
 -- What owning an array tells of its lists: `search (needs, is-grid)` or `shaped s _ (c .good .0)`, where s is the first parameter.
-use mathlib.Core.Path.{_≡_, refl, ap, sym, _∙_}
+use mathlib.Core.Path.{_≡_, sym, _∙_}
 use mathlib.Core.List.{List, [], _∷_, map}
 use Prim.Native.Nat.{ℕ, zero, suc, _<_}
 use native.Mathlib.Omega.{arith}

@@ -2,7 +2,7 @@
 -- first m cells of each.
 use mathlib.Core.Path.{_≡_}
 use mathlib.Core.Logic.{_≢_}
-use mathlib.Core.List.{List, [], map}
+use mathlib.Core.List.{[], map}
 use Prim.Native.Nat.{ℕ, _<_}
 use lib.ListN.{getD, take}
 use Rattle.fairness.specs.Exchange as exchange
@@ -43,7 +43,7 @@ pub record Playable (s : ℕ → ℕ → ℕ) (m : exchange.Move) : Type 0 where
 -- the array r is g after a move
 pub record Moved (g : Grid) (m : exchange.Move) (r : Grid) : Type 0 where
   pub shape : Shaped 32 24 r
-  pub cells : (i j : ℕ) → cell r i j ≡ exchange.play (cell g) m i j
+  pub cells : cell r ≡ exchange.play (cell g) m
 
 -- r is s with the number v at seat i in window j
 pub record Written (s : ℕ → ℕ → ℕ) (i j v : ℕ) (r : ℕ → ℕ → ℕ) : Type 0 where

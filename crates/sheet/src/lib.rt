@@ -79,6 +79,7 @@ impl Sheet {
         }
         total
     }
+
     // The sheet with a number at a seat in a window.
     pub fn put(mut self, seat: usize, window: usize, value: u16) -> Sheet
         requires { ⌜ (seat < 32) × (window < 24) ⌝ }
@@ -93,7 +94,7 @@ impl Sheet {
     // The sheet after a move. The giver and the taker may be one seat, and then nothing changes.
     pub fn play(mut self, m: Move) -> Sheet
         requires { ⌜ Playable (credit self) (moveOf m) ⌝ }
-        ensures { λ r. ⌜ ((i j : ℕ) → credit r i j ≡ play (credit self) (moveOf m) i j) ⌝ }
+        ensures { λ r. ⌜ credit r ≡ play (credit self) (moveOf m) ⌝ }
     {
         let w = m.window;
         let g = m.giver;
@@ -124,8 +125,7 @@ impl Sheet {
     pub fn from_grid(grid: [[u16; 24]; 32]) -> Sheet
         ensures { λ r. ⌜ gridOf r ≡ grid ⌝ }
     {
-        let row = Row { cells: [0u16; 24] };
-        let mut sheet = Sheet { rows: [row; 32] };
+        let mut sheet = Sheet::zero();
         for i in 0..32 {
             let row = Row { cells: grid[i] };
             sheet.rows[i] = row;

@@ -1,11 +1,10 @@
 -- `sheet::Sheet::from_grid` meets its contract. Each turn copies one row.
 use borrow.Author.Needs.{needs}
 use Prim.Native.Nat.{_-_}
-use mathlib.Core.Path.{refl}
 use Rattle.sheet.specs.Sheets.{gridOf}
 use Rattle.sheet.proofs.Cells.{set-row}
 use Rattle.sheet.proofs.Copies.{Copied, first, next, last}
-use Rattle.sheet.proofs.Shapes.{Held, is-grid}
+use Rattle.sheet.proofs.Shapes.{Held, is-grid, shaped}
 use Rattle.sheet.proofs.Sheet.from_grid.Statement.{statement}
 use Rattle.sheet.proofs.Sheet.from_grid.Tie as tie
 
@@ -15,10 +14,6 @@ Inv-loop grid sheet₀ i₀ sheet i = Copied grid i (gridOf sheet)
 abbrev μ-loop : tie.MeasureT-loop
 μ-loop grid sheet₀ i₀ sheet i = 32 - i
 
-loop-holds : tie.Need-loop-holds Inv-loop μ-loop
-unfolding gridOf
-loop-holds c = first _ _ refl
-
 loop-again : tie.Need-loop-again Inv-loop μ-loop
 loop-again c =
     let l = c .before .before .loop in
@@ -27,7 +22,7 @@ loop-again c =
 returns : tie.Need-returns Inv-loop μ-loop
 returns c =
     let l = c .before .loop in
-    let g = c .before .before .args .t1 in
+    let g = c .before .before .before .args .t1 in
     let h : Held g = search (needs, is-grid) in
     last g (l .i) (gridOf (l .sheet)) (l .inv) (search needs) (h .shape .rows)
 
@@ -37,7 +32,8 @@ from-grid-spec =
     (tie.spec
     Inv-loop
     μ-loop
-    loop-holds
+    (λ c κs. search needs)
+    (λ c. first _ _ (shaped _ _ (c .zero .ok) .shape .rows))
     (λ c. search needs)
     (λ c. search needs)
     (λ c. search needs)

@@ -1,7 +1,6 @@
 -- `sheet::Sheet::placed` meets its contract. Each turn adds one seat's cell.
 use borrow.Author.Needs.{needs}
-use Prim.Native.Nat.{ℕ, _-_, _<_}
-use mathlib.Core.Path.{_≡_}
+use Prim.Native.Nat.{_-_, _<_}
 use native.Mathlib.Omega.{arith}
 use Rattle.sheet.specs.Sheets.{credit}
 use Rattle.sheet.proofs.Sums.{Summed, first, next, last}
