@@ -1,0 +1,135 @@
+-- The laws of a grid's cells: when all are 0, in its used part, and after a write.
+use mathlib.Core.Path.{_≡_, refl, ap, sym, _∙_, fun-ext}
+use mathlib.Core.Logic.{_≢_}
+use mathlib.Core.List.{List, [], _∷_, map}
+use Prim.Native.Nat.{ℕ, zero, suc, _≤_, _<_, min}
+use native.Mathlib.Decide.{ℕ-discrete}
+use native.Mathlib.Omega.{arith}
+use lib.ListN.{length, getD, set, take, replicate, length-set, length-take, length-map, List·getD-map}
+use lib.Seq.{getD-set-same, getD-set-other, getD-take, ext-getD, take-nil}
+use Rattle.fairness.specs.Sums.{sum}
+use Rattle.fairness.proofs.Sums.{sum-eq}
+use Rattle.model.specs.Book.{Grid, cell, Shaped}
+use Rattle.sheet.specs.declared.Row.{Row}
+use Rattle.sheet.specs.declared.Sheet.{Sheet}
+use Rattle.sheet.specs.Sheets.{noRow, credit, gridOf, used, Written}
+
+-- ---- a sheet and its grid
+
+-- the same rows, and the same cells
+pub row-is : (s : Sheet) (i : ℕ) → getD (gridOf s) i [] ≡ getD (s .rows) i noRow .cells
+unfolding gridOf
+row-is s i = List·getD-map (λ (r : Row). r .cells) (s .rows) i noRow
+
+pub credit-cell : (s : Sheet) (i j : ℕ) → credit s i j ≡ cell (gridOf s) i j
+credit-cell s i j = ap (λ (l : List ℕ). getD l j 0) (sym (row-is s i))
+
+-- the same functions
+pub credit-is : (s : Sheet) → credit s ≡ cell (gridOf s)
+credit-is s = fun-ext (λ i. fun-ext (λ j. credit-cell s i j))
+
+-- rows of zeros
+zeros : (m j : ℕ) → _≡_ {A = ℕ} (getD (replicate m 0) j 0) 0
+zeros zero j = refl
+zeros (suc m) zero = refl
+zeros (suc m) (suc j) = zeros m j
+
+pub all-zero : (n m i j : ℕ) → credit (record { rows = replicate n (record { cells = replicate m 0 }) }) i j ≡ 0
+all-zero zero m i j = refl
+all-zero (suc n) m zero j = zeros m j
+all-zero (suc n) m (suc i) j = all-zero n m i j
+
+-- ---- grids of one shape
+
+-- two grids of one shape with the same cells are equal
+pub same-grid : (n m : ℕ) (g h : Grid) → Shaped n m g → Shaped n m h
+    → ((i j : ℕ) → i < n → j < m → cell g i j ≡ cell h i j) → g ≡ h
+same-grid n m g h p q f = ext-getD [] g h (omega (arith, p .rows, q .rows)) row
+  where
+    row : (i : ℕ) → i < length g → getD g i [] ≡ getD h i []
+    row i l =
+        let a : i < n = omega (arith, p .rows) in
+        let e = p .row i a in
+        ext-getD 0 (getD g i []) (getD h i []) (e ∙ sym (q .row i a)) (λ j k. f i j a (omega arith))
+
+-- ---- the used part
+
+row-used : (n m : ℕ) (g : Grid) (i : ℕ) → i < n → getD (used n m g) i [] ≡ take m (getD g i [])
+unfolding used
+row-used n m g i l =
+    let e : _≡_ {A = List ℕ} [] (take m []) = sym (take-nil m) in
+    ap (getD (map (take m) (take n g)) i) e ∙ List·getD-map (take m) (take n g) i [] ∙ ap (take m) (getD-take n g i [] l)
+
+pub used-cell : (n m : ℕ) (g : Grid) (i j : ℕ) → i < n → j < m → cell (used n m g) i j ≡ cell g i j
+used-cell n m g i j l k = ap (λ (r : List ℕ). getD r j 0) (row-used n m g i l) ∙ getD-take m (getD g i []) j 0 k
+
+-- a seat's total, and a window's cells together
+pub used-total : (n m : ℕ) (g : Grid) (i : ℕ) → i < n → sum m (cell (used n m g) i) ≡ sum m (cell g i)
+used-total n m g i l = sum-eq m _ _ (λ j k. used-cell n m g i j l k)
+
+pub used-placed : (n m : ℕ) (g : Grid) (j : ℕ) → j < m → sum n (λ i. cell (used n m g) i j) ≡ sum n (λ i. cell g i j)
+used-placed n m g j l = sum-eq n _ _ (λ i k. used-cell n m g i j k l)
+
+pub used-shaped : (N M n m : ℕ) (g : Grid) → Shaped N M g → n ≤ N → m ≤ M → Shaped n m (used n m g)
+unfolding used
+used-shaped N M n m g p a b = record {
+  rows = length-map (take n g) (take m) ∙ length-take n g ∙ omega (arith, p .rows);
+  row = λ i l. ap length (row-used n m g i l) ∙ length-take m (getD g i []) ∙ omega (arith, p .row i (omega arith));
+}
+
+-- ---- a write
+
+abbrev pub written : Grid → ℕ → ℕ → ℕ → Grid
+written g i j v = set g i (set (getD g i []) j v)
+
+module _ (n m : ℕ) (g : Grid) (p : Shaped n m g) (i j v : ℕ) (hi : i < n) (hj : j < m) where
+  row-same : getD (written g i j v) i [] ≡ set (getD g i []) j v
+  row-same = getD-set-same g i _ [] (omega (arith, p .rows))
+
+  row-other : (a : ℕ) → a ≢ i → getD (written g i j v) a [] ≡ getD g a []
+  row-other a d = getD-set-other g i a _ [] d
+
+  pub written-is : Written (cell g) i j v (cell (written g i j v))
+  written-is = record {
+    here = ap (λ (r : List ℕ). getD r j 0) row-same ∙ getD-set-same (getD g i []) j v 0 (omega (arith, p .row i hi));
+    seats = λ a b d. ap (λ (r : List ℕ). getD r b 0) (row-other a d);
+    windows = λ a b d. elim (ℕ-discrete a i) [
+      | yes e ↦ rw e (ap (λ (r : List ℕ). getD r b 0) row-same ∙ getD-set-other (getD g i []) j b v 0 d)
+      | no q ↦ ap (λ (r : List ℕ). getD r b 0) (row-other a q)
+    ];
+  }
+
+  pub written-shaped : Shaped n m (written g i j v)
+  written-shaped = record {
+    rows = length-set g i _ ∙ p .rows;
+    row = λ a l. elim (ℕ-discrete a i) [
+      | yes e ↦ rw e (ap length row-same ∙ length-set (getD g i []) j v ∙ p .row i hi)
+      | no q ↦ ap length (row-other a q) ∙ p .row a l
+    ];
+  }
+
+-- ---- a write on a sheet
+
+map-set : (l : List Row) (i : ℕ) (y : Row) → map (λ (r : Row). r .cells) (set l i y) ≡ set (map (λ (r : Row). r .cells) l) i (y .cells)
+map-set [] i y = refl
+map-set (x ∷ l) zero y = refl
+map-set (x ∷ l) (suc i) y = ap (λ (t : Grid). x .cells ∷ t) (map-set l i y)
+
+-- a whole row
+pub set-row : (s : Sheet) (i : ℕ) (r : Row) → gridOf (record { rows = set (s .rows) i r }) ≡ set (gridOf s) i (r .cells)
+unfolding gridOf
+set-row s i r = map-set (s .rows) i r
+
+-- a cell
+abbrev pub putIn : Sheet → ℕ → ℕ → ℕ → Sheet
+putIn s i j v = record { rows = set (s .rows) i (record { cells = set (getD (s .rows) i noRow .cells) j v }) }
+
+put-grid : (s : Sheet) (i j v : ℕ) → gridOf (putIn s i j v) ≡ written (gridOf s) i j v
+put-grid s i j v = rw (row-is s i) (set-row s i _)
+
+module _ (s : Sheet) (p : Shaped 32 24 (gridOf s)) (i j v : ℕ) (hi : i < 32) (hj : j < 24) where
+  pub put-is : Written (credit s) i j v (credit (putIn s i j v))
+  put-is = rw (credit-is s, credit-is (putIn s i j v), put-grid s i j v) (written-is 32 24 (gridOf s) p i j v hi hj)
+
+  pub put-shaped : Shaped 32 24 (gridOf (putIn s i j v))
+  put-shaped = rw (put-grid s i j v) (written-shaped 32 24 (gridOf s) p i j v hi hj)

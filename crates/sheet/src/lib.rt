@@ -1,0 +1,148 @@
+// The data in memory: a sheet of credits as arrays, its sums and its moves.
+ghost use mathlib.Core.Path.{_≡_};
+ghost use Prim.Native.Nat.{ℕ, _≤_, _<_};
+ghost use lib.ListN.{getD};
+ghost use Rattle.fairness.specs.Sums.{sum};
+ghost use Rattle.fairness.specs.Exchange.{play};
+ghost use Rattle.model.specs.Book.{cell, Shaped};
+ghost use Rattle.sheet.specs.Sheets.{credit, gridOf, moveOf, Playable, Moved, Written};
+
+// A seat's cells, one for each window.
+pub struct Row {
+    pub cells: [u16; 24],
+}
+
+// A row for each seat.
+pub struct Sheet {
+    pub rows: [Row; 32],
+}
+
+// One credit in a window, from a giver to a taker.
+pub struct Move {
+    pub window: usize,
+    pub giver: usize,
+    pub taker: usize,
+}
+
+// The most each seat can use in each window.
+pub type Caps = [[u16; 24]; 32];
+
+// The first cells of a row together.
+pub fn row_total(row: [u16; 24], windows: usize) -> u32
+    requires { ⌜ windows ≤ 24 ⌝ }
+    ensures { λ r. ⌜ r ≡ sum windows (λ j. getD row j 0) ⌝ }
+{
+    let mut total: u32 = 0;
+    for w in 0..windows {
+        total += row[w] as u32;
+    }
+    total
+}
+
+impl Sheet {
+    // The sheet with no credit anywhere.
+    pub fn zero() -> Sheet
+        ensures { λ r. ⌜ ((i j : ℕ) → credit r i j ≡ 0) ⌝ }
+    {
+        let row = Row { cells: [0u16; 24] };
+        Sheet { rows: [row; 32] }
+    }
+
+    // The credits of a seat in a window.
+    pub fn cell(self, seat: usize, window: usize) -> u16
+        requires { ⌜ (seat < 32) × (window < 24) ⌝ }
+        ensures { λ r. ⌜ r ≡ credit self seat window ⌝ }
+    {
+        let row = self.rows[seat];
+        row.cells[window]
+    }
+
+    // A seat's total.
+    pub fn total(self, seat: usize, windows: usize) -> u32
+        requires { ⌜ (seat < 32) × (windows ≤ 24) ⌝ }
+        ensures { λ r. ⌜ r ≡ sum windows (λ j. credit self seat j) ⌝ }
+    {
+        let row = self.rows[seat];
+        let cells = row.cells;
+        row_total(cells, windows)
+    }
+
+    // A window's cells together.
+    pub fn placed(self, window: usize, seats: usize) -> u32
+        requires { ⌜ (window < 24) × (seats ≤ 32) ⌝ }
+        ensures { λ r. ⌜ r ≡ sum seats (λ i. credit self i window) ⌝ }
+    {
+        let mut total: u32 = 0;
+        for i in 0..seats {
+            let row = self.rows[i];
+            total += row.cells[window] as u32;
+        }
+        total
+    }
+    // The sheet with a number at a seat in a window.
+    pub fn put(mut self, seat: usize, window: usize, value: u16) -> Sheet
+        requires { ⌜ (seat < 32) × (window < 24) ⌝ }
+        ensures { λ r. ⌜ Written (credit self) seat window value (credit r) ⌝ }
+    {
+        let mut row = self.rows[seat];
+        row.cells[window] = value;
+        self.rows[seat] = row;
+        self
+    }
+
+    // The sheet after a move. The giver and the taker may be one seat, and then nothing changes.
+    pub fn play(mut self, m: Move) -> Sheet
+        requires { ⌜ Playable (credit self) (moveOf m) ⌝ }
+        ensures { λ r. ⌜ ((i j : ℕ) → credit r i j ≡ play (credit self) (moveOf m) i j) ⌝ }
+    {
+        let w = m.window;
+        let g = m.giver;
+        let t = m.taker;
+        let mut from = self.rows[g];
+        from.cells[w] -= 1;
+        self.rows[g] = from;
+        let mut to = self.rows[t];
+        to.cells[w] += 1;
+        self.rows[t] = to;
+        self
+    }
+
+    // The cells as a bare array of arrays.
+    pub fn to_grid(self) -> [[u16; 24]; 32]
+        ensures { λ r. ⌜ r ≡ gridOf self ⌝ }
+    {
+        let mut grid = [[0u16; 24]; 32];
+        for i in 0..32 {
+            let row = self.rows[i];
+            let cells = row.cells;
+            grid[i] = cells;
+        }
+        grid
+    }
+
+    // The sheet with the cells of a bare array of arrays.
+    pub fn from_grid(grid: [[u16; 24]; 32]) -> Sheet
+        ensures { λ r. ⌜ gridOf r ≡ grid ⌝ }
+    {
+        let row = Row { cells: [0u16; 24] };
+        let mut sheet = Sheet { rows: [row; 32] };
+        for i in 0..32 {
+            let row = Row { cells: grid[i] };
+            sheet.rows[i] = row;
+        }
+        sheet
+    }
+}
+
+// A move on a bare array of arrays, in place. A reference does not tell an array's shape, so the caller does.
+pub fn move_in(grid: &mut [[u16; 24]; 32], m: Move)
+    requires { ⌜ Shaped 32 24 (now grid) ⌝ }
+    requires { ⌜ Playable (cell (now grid)) (moveOf m) ⌝ }
+    ensures { λ _. ⌜ Moved (now (grid .entry)) (moveOf m) (now (grid .exit)) ⌝ }
+{
+    let w = m.window;
+    let g = m.giver;
+    let t = m.taker;
+    grid[g][w] -= 1;
+    grid[t][w] += 1;
+}
