@@ -1,0 +1,99 @@
+-- Numbers in memory that are those of a book, a sheet and moves give the listing of these.
+use mathlib.Core.Path.{_≡_, refl, sym, ap₂, _∙_}
+use mathlib.Core.List.{List, [], _∷_, _++_}
+use Prim.Native.Nat.{ℕ, zero, suc, _+_, _*_, _<_}
+use native.Mathlib.Omega.{arith}
+use lib.ListN.{length, getD, List·getD-append}
+use Rattle.fairness.specs.Instance.{placed, total}
+use Rattle.fairness.specs.Leximin.{table}
+use Rattle.fairness.specs.Exchange.{Move}
+use Rattle.model.specs.Book.{Book, Grid, cell, seats, windows, instanceOf, totals}
+use Rattle.model.specs.Marks.{Result}
+use Rattle.listing.specs.Listing.{
+  windowLine,
+  seatLine,
+  moveLine,
+  lines,
+  windowLines,
+  seatLines,
+  moveLines,
+  bookLines,
+  resultLines,
+  listingText,
+  moveBytes,
+  listingOf,
+}
+
+-- ---- the same numbers give the same text
+
+-- two lists have the same first k entries
+pub record Agree (k : ℕ) (xs ys : List ℕ) : Type 0 where
+  pub entry : (i : ℕ) → i < k → getD xs i 0 ≡ getD ys i 0
+
+lines-same : (f g : ℕ → List ℕ) (n : ℕ) → ((j : ℕ) → j < n → f j ≡ g j) → lines n f ≡ lines n g
+unfolding lines
+lines-same f g zero h = refl
+lines-same f g (suc n) h =
+    ap₂ (λ (xs ys : List ℕ). xs ++ ys) (lines-same f g n (λ j l. h j (omega arith))) (h n (omega arith))
+
+windows-same : (m : ℕ) {supplies supplies′ placed placed′ : List ℕ} → Agree m supplies supplies′ → Agree m placed placed′
+    → windowLines m supplies placed ≡ windowLines m supplies′ placed′
+unfolding windowLines
+windows-same m hs hp = lines-same _ _ m (λ j l. ap₂ (windowLine j) (hs .entry j l) (hp .entry j l))
+
+seats-same : (n : ℕ) {classes classes′ totals totals′ : List ℕ} → Agree n classes classes′ → Agree n totals totals′
+    → seatLines n classes totals ≡ seatLines n classes′ totals′
+unfolding seatLines
+seats-same n hc ht = lines-same _ _ n (λ i l. ap₂ (seatLine i) (hc .entry i l) (ht .entry i l))
+
+moves-same : (count : ℕ) {moves moves′ : List ℕ} → Agree (count * 3) moves moves′ → moveLines count moves ≡ moveLines count moves′
+unfolding moveLines
+moves-same count {moves} {moves′} h =
+    lines-same _ _ count
+    (λ k l. ap₂ (λ (f : ℕ → List ℕ) (t : ℕ). f t)
+    (ap₂ moveLine (h .entry (k * 3) (omega arith)) (h .entry (k * 3 + 1) (omega arith))) (h .entry (k * 3 + 2) (omega arith)))
+
+pub listing-same : (n m mark window seat count : ℕ)
+    {classes classes′ supplies supplies′ placed placed′ totals totals′ moves moves′ : List ℕ}
+    → Agree n classes classes′ → Agree m supplies supplies′ → Agree m placed placed′ → Agree n totals totals′
+    → Agree (count * 3) moves moves′
+    → listingText n m classes supplies placed totals mark window seat moves count
+    ≡ listingText n m classes′ supplies′ placed′ totals′ mark window seat moves′ count
+unfolding listingText bookLines resultLines
+listing-same n m mark window seat count hc hs hp ht hv = rw (windows-same m hs hp, seats-same n hc ht, moves-same count hv)
+
+-- ---- a book in memory
+
+table-at : (n : ℕ) (f : ℕ → ℕ) (i : ℕ) → i < n → getD (table n f) i 0 ≡ f i
+unfolding table
+table-at zero f i h = absurd (omega arith)
+table-at (suc n) f zero h = refl
+table-at (suc n) f (suc i) h = table-at n (λ k. f (suc k)) i (omega arith)
+
+-- the numbers are those of the book and the sheet, and the first moves those of the list
+pub record InMemory (b : Book) (s : Grid) (ms : List Move) (classes supplies given summed moves : List ℕ) (count : ℕ) : Type 0 where
+  pub class : Agree (seats b) classes (b .classes)
+  pub supply : Agree (windows b) supplies (b .supplies)
+  pub window-placed : (j : ℕ) → j < windows b → getD given j 0 ≡ placed (instanceOf b) (cell s) j
+  pub seat-total : (i : ℕ) → i < seats b → getD summed i 0 ≡ total (instanceOf b) (cell s) i
+  pub written : Agree (count * 3) moves (moveBytes ms)
+
+pub listing-is : {b : Book} {s : Grid} {ms : List Move} {classes supplies given summed moves : List ℕ} (r : Result)
+    → InMemory b s ms classes supplies given summed moves (r .moves)
+    → listingText (seats b) (windows b) classes supplies given summed (r .mark) (r .window) (r .seat) moves (r .moves) ≡ listingOf b s r ms
+unfolding listingOf totals
+listing-is {b} {s} r h =
+    listing-same _ _ _ _ _ (r .moves) (h .class) (h .supply)
+    (record { entry = λ j l. h .window-placed j l ∙ sym (table-at _ _ j l) })
+    (record { entry = λ i l. h .seat-total i l ∙ sym (table-at _ _ i l) })
+    (h .written)
+
+-- moves that stand at a buffer's front
+move-bytes-length : (ms : List Move) → length (moveBytes ms) ≡ length ms * 3
+unfolding moveBytes
+move-bytes-length [] = refl
+move-bytes-length (m ∷ ms) = omega (arith, move-bytes-length ms)
+
+pub at-front : (ms : List Move) (rest : List ℕ) → Agree (length ms * 3) (moveBytes ms ++ rest) (moveBytes ms)
+at-front ms rest =
+    record { entry = λ k h. List·getD-append (moveBytes ms) rest 0 k (omega (arith, move-bytes-length ms)) }

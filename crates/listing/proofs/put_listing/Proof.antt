@@ -1,0 +1,49 @@
+-- `listing::put_listing` meets its contract.
+use borrow.Author.Needs.{needs}
+use mir.Syntax.{w8, w16, w32}
+use Rattle.text.specs.Text.{Room}
+use Rattle.text.proofs.Buffer.{room-first, room-next, stored-next}
+use Rattle.listing.specs.Listing.{listingText}
+use Rattle.listing.proofs.Bounds.{below, listing-le}
+use Rattle.listing.proofs.Fronts.{front-room, printed}
+use Rattle.listing.proofs.put_listing.Statement.{statement}
+use Rattle.listing.proofs.put_listing.Tie as tie
+use Rattle.listing.proofs.put_listing.Reads as reads
+use Rattle.listing.proofs.put_listing.Lts as lts
+
+-- the buffer has room for the whole text
+fits : (c : tie.After-shared-slice-known) → let a = c .before .before .args in
+    Room (a .out .now) 0
+    (listingText (a .seats) (a .windows) (a .classes) (a .supplies) (a .placed) (a .totals)
+    (a .mark) (a .window) (a .seat) (a .moves .now) (a .count))
+fits c =
+    let s = c .before .before in
+    let a = s .args in
+    let classes = below w16 (a .classes) (λ i. search needs) in
+    let supplies = below w16 (a .supplies) (λ i. search needs) in
+    let placed = below w32 (a .placed) (λ i. search needs) in
+    let totals = below w32 (a .totals) (λ i. search needs) in
+    let moves = below w8 (a .moves .now) (c .shared-slice-known .given) in
+    let book = listing-le (a .seats) (a .windows) _ _ _ _ (search needs) (search needs) classes supplies placed totals in
+    let all = book (a .mark) (a .window) (a .seat) _ (a .count) (search needs) (search needs) (search needs) moves (search needs) in
+    front-room all (s .pre .0)
+
+put-book-lines-requires : tie.Need-put-book-lines-requires
+unfolding listingText
+put-book-lines-requires c κs = (search needs, room-first _ _ (fits (c .before)))
+
+put-result-lines-requires : tie.Need-put-result-lines-requires
+unfolding listingText
+put-result-lines-requires c κs =
+    let first = c .before .before .before in
+    (search needs, room-next _ _ (fits (first .before .before)) (first .put-book-lines .ensures))
+
+returns : tie.Need-returns
+unfolding listingText
+returns c =
+    let second = c .before .before in
+    let first = second .before .before .before .before in
+    printed (fits (first .before .before)) (stored-next (first .put-book-lines .ensures) (second .put-result-lines .ensures))
+
+pub put-listing-spec : {M : Type 1} → statement M
+put-listing-spec = tie.close (tie.spec put-book-lines-requires put-result-lines-requires (λ c. search needs) returns)

@@ -1,0 +1,2 @@
+-- Text in an output buffer.
+pub mod Text

@@ -1,0 +1,69 @@
+-- Text as bytes, numbers in decimal, paper 01's opening times, and what it is to store text in an output buffer.
+use mathlib.Core.Path.{_≡_}
+use mathlib.Core.Bool.{Bool, true, false}
+use mathlib.Core.List.{List, [], _∷_, _++_}
+use Prim.Native.Nat.{ℕ, zero, suc, _+_, _/_, _%_, _≤_}
+use Prim.Native.Char.{code}
+use Prim.Native.String.{String, [] as empty, _∷_ as _then_}
+use lib.Dec.{ltb}
+use lib.ListN.{length, getD}
+use lib.Seq.{sets}
+
+-- the bytes of a text of ASCII characters
+abbrev pub ascii : String → List ℕ
+ascii empty = []
+ascii (c then s) = code c ∷ ascii s
+
+-- ---- numbers
+
+-- a number in so many decimal digits, leading zeros included: before the last digit, n % 10, those of n / 10
+unfoldable pub digits : ℕ → ℕ → List ℕ
+digits zero n = []
+digits (suc k) n = digits k (n / 10) ++ ((48 + n % 10) ∷ [])
+
+abbrev pick : Bool → ℕ → ℕ → ℕ
+pick true a b = a
+pick false a b = b
+
+-- how many digits a number takes: 1 below ten, and else one more than a tenth of it does; it looks at no more than k + 1
+unfoldable pub widthWithin : ℕ → ℕ → ℕ
+widthWithin zero n = 1
+widthWithin (suc k) n = pick (ltb n 10) 1 (suc (widthWithin k (n / 10)))
+
+-- no number has more digits than itself, 0 apart
+unfoldable pub widthOf : ℕ → ℕ
+widthOf n = widthWithin n n
+
+-- a number in decimal, without leading zeros; 0 is "0"
+unfoldable pub decimal : ℕ → List ℕ
+decimal n = digits (widthOf n) n
+
+-- a time of the day, as 0800
+unfoldable pub fourDigits : ℕ → List ℕ
+fourDigits n = digits 4 n
+
+-- ---- opening times
+
+abbrev openingTimes : List ℕ
+openingTimes =
+    800 ∷ 825 ∷ 850 ∷ 915 ∷ 940 ∷ 1005 ∷ 1030 ∷ 1055 ∷ 1120 ∷ 1145 ∷ 1210 ∷ 1235
+    ∷ 1300 ∷ 1325 ∷ 1350 ∷ 1415 ∷ 1440 ∷ 1505 ∷ 1530 ∷ 1555 ∷ 1620 ∷ 1645 ∷ 1710 ∷ 1735 ∷ []
+
+-- when a window opens, counted from 0: hours and minutes read as one number
+unfoldable pub openingTime : ℕ → ℕ
+openingTime j = getD openingTimes j 0
+
+-- ---- output buffers
+
+-- the buffer with the bytes stored one after the other from a place on; every other byte is kept
+unfoldable pub putAt : List ℕ → ℕ → List ℕ → List ℕ
+putAt buffer at bytes = sets buffer at bytes
+
+-- the buffer is long enough for that
+pub record Room (buffer : List ℕ) (at : ℕ) (bytes : List ℕ) : Type 0 where
+  pub fits : at + length bytes ≤ length buffer
+
+-- that was done, and the next byte's place is given
+pub record Stored (before : List ℕ) (at : ℕ) (bytes after : List ℕ) (next : ℕ) : Type 0 where
+  pub buffer : after ≡ putAt before at bytes
+  pub place : next ≡ at + length bytes
