@@ -2,3 +2,11 @@
 pub mod Tests
 pub mod Search
 pub mod Lines
+pub mod Tables
+pub mod Fields
+pub mod Grids
+pub mod Sound
+pub mod Rising
+pub mod Container
+pub mod Optional
+pub mod WrittenReads

@@ -49,6 +49,13 @@ pub none-first-of : (ls : List Line) → NoneHolds ls → firstOf ls ≡ none
 none-first-of [] h = refl
 none-first-of (l ∷ ls) h = sym (on (l .number) (h .0) (sym (none-first-of ls (h .1))))
 
+-- none holds in either of two groups
+pub none-parts : (xs ys : List Line) → firstOf (xs ++ ys) ≡ none → (firstOf xs ≡ none) × (firstOf ys ≡ none)
+none-parts [] ys e = (refl, e)
+none-parts (l ∷ xs) ys e =
+    let h = line-none (l .number) (l .place) (firstOf (xs ++ ys)) e in
+    let k = none-parts xs ys (h .1) in (sym (on (l .number) (h .0) (sym (k .0))), k .1)
+
 -- ---- the first that holds
 
 first-line : (l : Line) (ls : List Line) (q : Refusal) (o : Option ℕ) → l .place ≡ o → (firstOf ls ≡ some q → FirstHolds ls q)
