@@ -1,0 +1,12 @@
+-- Laws of the day file. The theorems, in words, are in Theorems.antt.
+pub mod Tests
+pub mod Search
+pub mod Lines
+pub mod Tables
+pub mod Fields
+pub mod Grids
+pub mod Sound
+pub mod Rising
+pub mod Container
+pub mod Optional
+pub mod WrittenReads
