@@ -1,9 +1,29 @@
 -- The mathematics of leximin-fair sheets. Theorems.antt has what others cite; the other files work towards it.
 
--- numbers and decisions
+-- numbers, decisions and lists
 pub mod Sums
 pub mod Decide
--- exchange paths and layers
+pub mod Lists
+-- exchange paths: by layers, and played
 pub mod Walks
+pub mod Plays
+-- what a sheet has the most of, where there is no path of some kind
+pub mod Cut
+pub mod Threshold
+pub mod Lex
+pub mod Potential
+pub mod Unique
+-- profiles, and levels in whole units
+pub mod Sorting
+pub mod Units
+pub mod Levels
+pub mod Wanted
+pub mod Profiles
+-- the theorems, from the work above
+pub mod Optimal
+pub mod Progress
+pub mod Measure
+pub mod Settle
+pub mod Certificate
 -- what others cite
 pub mod Theorems

@@ -2,34 +2,21 @@
 use mathlib.Core.Path.{_≡_, refl, sym, ap, _∙_, subst}
 use mathlib.Core.Logic.{_⊎_, inl, inr}
 use mathlib.Core.List.{List, [], _∷_, _++_, map}
-use Prim.Native.Nat.{ℕ, zero, suc, _+_, _≤_, _<_, zero-le}
+use Prim.Native.Nat.{ℕ, zero, suc, _≤_, _<_}
 use native.Mathlib.Nat.{le-refl, le-of-eq}
 use native.Mathlib.Decide.{decLt, ℕ-discrete}
 use native.Mathlib.Omega.{arith}
 use lib.ListN.{length, length-map, length-append}
-use Rattle.fairness.specs.Sums.{sum, keep}
 use Rattle.fairness.specs.Instance.{Instance, Sheet}
-use Rattle.fairness.specs.Exchange.{Move, Possible, All, Distinct, Linked, Path}
+use Rattle.fairness.specs.Exchange.{Move, Possible, All, Linked, Path}
 use Rattle.fairness.specs.Layers.{Edge, Within}
-use Rattle.fairness.proofs.Sums.{sum-eq, sum-add, sum-none, sum-most}
-use Rattle.fairness.proofs.Decide.{both?, either?, below?, sum-at, keep-no}
+use Rattle.fairness.proofs.Decide.{both?, either?, below?}
+use Rattle.fairness.proofs.Lists.{All-map, All-end, Distinct-end, Distinct-length}
 
--- ---- lists
+-- ---- one move more at the end
 
 abbrev pub givers : List Move → List ℕ
 givers ms = map (λ (m : Move). m .giver) ms
-
-pub All-map : {A : Type 0} (P Q : A → Type 0) → ((x : A) → P x → Q x) → (xs : List A) → All P xs → All Q xs
-All-map P Q f [] a = tt
-All-map P Q f (x ∷ xs) a = (f x (a .0), All-map P Q f xs (a .1))
-
-All-end : {A : Type 0} (P : A → Type 0) (xs : List A) (y : A) → All P xs → P y → All P (xs ++ (y ∷ []))
-All-end P [] y a p = (p, tt)
-All-end P (x ∷ xs) y a p = (a .0, All-end P xs y (a .1) p)
-
-Distinct-end : (xs : List ℕ) (y : ℕ) → Distinct xs → All (λ x. x ≡ y → ⊥) xs → Distinct (xs ++ (y ∷ []))
-Distinct-end [] y d a = (tt, tt)
-Distinct-end (x ∷ xs) y d a = (All-end (λ z. x ≡ z → ⊥) xs y (d .0) (a .0), Distinct-end xs y (d .1) (a .1))
 
 givers-end : (ms : List Move) (m : Move) → givers (ms ++ (m ∷ [])) ≡ givers ms ++ (m .giver ∷ [])
 givers-end [] m = refl
@@ -38,41 +25,6 @@ givers-end (x ∷ ms) m = ap (λ (l : List ℕ). x .giver ∷ l) (givers-end ms 
 Linked-end : (g k : ℕ) (ms : List Move) (m : Move) → Linked g ms k → m .taker ≡ k → Linked g (ms ++ (m ∷ [])) (m .giver)
 Linked-end g k [] m e t = (t ∙ sym e, refl)
 Linked-end g k (x ∷ ms) m e t = (e .0, Linked-end (x .giver) k ms m (e .1) t)
-
--- how often i stands in a list
-occurrences : ℕ → List ℕ → ℕ
-occurrences i [] = 0
-occurrences i (x ∷ xs) = keep (ℕ-discrete i x) 1 + occurrences i xs
-
-occurrences-none : (i : ℕ) (xs : List ℕ) → All (λ x. i ≡ x → ⊥) xs → occurrences i xs ≡ 0
-unfolding occurrences
-occurrences-none i [] a = refl
-occurrences-none i (x ∷ xs) a = omega (arith, keep-no (ℕ-discrete i x) 1 (a .0), occurrences-none i xs (a .1))
-
-occurrences-most : (i : ℕ) (xs : List ℕ) → Distinct xs → occurrences i xs ≤ 1
-unfolding occurrences
-occurrences-most i [] d = zero-le
-occurrences-most i (x ∷ xs) d = go (occurrences-most i xs (d .1)) (ℕ-discrete i x)
-  where
-    go : occurrences i xs ≤ 1 → (e : Dec (i ≡ x)) → keep e 1 + occurrences i xs ≤ 1
-    go ih (yes e) = omega (arith, occurrences-none i xs (subst (λ (z : ℕ). All (λ y. z ≡ y → ⊥) xs) (sym e) (d .0)))
-    go ih (no e) = omega arith
-
-occurrences-sum : (n : ℕ) (xs : List ℕ) → All (λ x. x < n) xs → sum n (λ i. occurrences i xs) ≡ length xs
-unfolding occurrences
-occurrences-sum n [] a = sum-none n (λ i. 0) (λ i l. refl)
-occurrences-sum n (x ∷ xs) a =
-    omega (
-      arith,
-      sum-add n (λ i. keep (ℕ-discrete i x) 1) (λ i. occurrences i xs),
-      sum-at n x 1 (a .0),
-      occurrences-sum n xs (a .1),
-    )
-
--- of the numbers below n, a list without repetition has no more than n
-Distinct-length : (n : ℕ) (xs : List ℕ) → Distinct xs → All (λ x. x < n) xs → length xs ≤ n
-Distinct-length n xs d a =
-    omega (arith, occurrences-sum n xs a, sum-most n (λ i. occurrences i xs) (λ i l. occurrences-most i xs d))
 
 module _ (I : Instance) (S : Sheet) where
   -- ---- edges and layers are decidable
@@ -120,7 +72,7 @@ module _ (I : Instance) (S : Sheet) where
   within-front (suc r) g k l e (inl w) = inl (within-front r g k l e w)
   within-front (suc r) g k l e (inr w) = inr (w .0, w .1, (within-front r g k (w .0) e (w .2 .0), w .2 .1))
 
-  edge-of : (m : Move) → Possible I S m → Edge I S (m .taker) (m .giver)
+  pub edge-of : (m : Move) → Possible I S m → Edge I S (m .taker) (m .giver)
   edge-of m p = record { window = m .window; possible = p }
 
   linked-within : (g l : ℕ) (ms : List Move) → Linked g ms l → All (Possible I S) ms → Within I S (length ms) g l
@@ -154,7 +106,7 @@ module _ (I : Instance) (S : Sheet) where
     long : length moves ≡ r
     reached : All (λ k. Within I S r g k) (givers moves)
 
-  no-path : (g l : ℕ) → g ≡ l → Path I S g l []
+  pub no-path : (g l : ℕ) → g ≡ l → Path I S g l []
   no-path g l e = record { linked = e; possible = tt; distinct = (tt, tt) }
 
   -- one move more, to a seat that is not on the path

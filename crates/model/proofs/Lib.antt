@@ -8,3 +8,6 @@ pub mod Sets
 pub mod Layers
 pub mod Meaning
 pub mod Marks
+-- the theorems
+pub mod Agree
+pub mod Theorems

@@ -1,17 +1,18 @@
 -- The mark that is computed is the one that holds. Assumes nothing.
 use mathlib.Core.Path.{_≡_, refl, sym, ap, _∙_}
-use mathlib.Core.Bool.{Bool, true, false, _&&_, and-false}
+use mathlib.Core.Bool.{Bool, true, false, _&&_}
 use mathlib.Core.Logic.{_⊎_, inl, inr, _↔_}
 use mathlib.Core.Option.{Option, none, some}
-use Prim.Native.Nat.{ℕ, _+_, _-_, _*_, _≤_, _<_}
-use native.Mathlib.Nat.{le-refl, lt-trans, mul-le-mul-right}
+use Prim.Native.Nat.{ℕ, _≤_, _<_}
+use native.Mathlib.Nat.{lt-trans}
 use native.Mathlib.Decide.{decLt}
 use native.Mathlib.Omega.{arith}
-use lib.Dec.{eqb, ltb}
+use lib.Dec.{ltb}
 use lib.ListN.{getD}
-use borrow.Author.Tests.{ltb-true, ltb-false, lt-ltb, le-ltb, ne-eqb}
-use Rattle.fairness.specs.Instance.{Wasteful, placed, height}
-use Rattle.fairness.specs.Exchange.{improves, tiesWrongly, improvesAt, tiesAt, Improvable, Tied}
+use borrow.Author.Tests.{ltb-true, ltb-false, lt-ltb, le-ltb}
+use Rattle.fairness.specs.Instance.{Wasteful, placed}
+use Rattle.fairness.specs.Exchange.{improvesAt, tiesAt, Improvable, Tied}
+use Rattle.fairness.proofs.Theorems
 use Rattle.model.specs.Lowest.{lowest, isSome, orElse, andThen, getOr}
 use Rattle.model.specs.Book.{Book, Grid, cell, seats, windows, instanceOf}
 use Rattle.model.specs.Search.{Found, Picked, search}
@@ -20,26 +21,14 @@ use Rattle.model.proofs.Tests.{and-true, or-true, not-true, true-not-fa
 use Rattle.model.proofs.Lowest.{Lowest, Fails, lowest-is, lowest-fails, lowest-some, lowest-none, lowest-cases, isSome-lowest, isSome-Lowest}
 use Rattle.model.proofs.Meaning.{search-cases, search-some, search-none}
 
--- ---- no test passes of a seat and itself
-
-improves-self : (h w : ℕ) → improves h w h w ≡ false
-unfolding improves
-improves-self h w =
-    rw (le-ltb (h * w) ((h - 1) * w) (mul-le-mul-right w (omega arith)), le-ltb w w (le-refl w))
-    (and-false (eqb (h * w) ((h - 1) * w)))
-
-ties-self : (h w p : ℕ) → tiesWrongly h w p h w p ≡ false
-unfolding tiesWrongly
-ties-self h w p = rw (ne-eqb h (h + 1) (λ e. omega arith)) (and-false (eqb w w))
-
 module _ (b : Book) (s : Grid) where
+  -- ---- no test passes of a seat and itself
+
   improves-apart : (g : ℕ) → improvesAt (instanceOf b) (cell s) g g ≡ false
-  unfolding improvesAt
-  improves-apart g = improves-self _ _
+  improves-apart g = not-true _ (Theorems.improves-apart (instanceOf b) (cell s) g)
 
   ties-apart : (g : ℕ) → tiesAt (instanceOf b) (cell s) g g ≡ false
-  unfolding tiesAt
-  ties-apart g = ties-self _ _ _
+  ties-apart g = not-true _ (Theorems.ties-apart (instanceOf b) (cell s) g)
 
   -- ---- waste
 
@@ -83,7 +72,8 @@ module _ (b : Book) (s : Grid) where
       at w (yes l) = absurd (true-not-false _ (wastes-at w .1) (h .least (w .window) l))
       at w (no l) = omega arith
 
-  waste-of : (j i : ℕ) → Wasted b s j i → Wasteful (instanceOf b) (cell s)
+  -- what is wasted lowest is wasted
+  pub waste-of : (j i : ℕ) → Wasted b s j i → Wasteful (instanceOf b) (cell s)
   unfolding instanceOf
   waste-of j i h = record { window = j; seat = i; in-window = h .window; in-seat = h .seat; left = h .left; room = h .room }
 

@@ -1,4 +1,5 @@
 -- Paper 01's lists of levels, and the highest list of a book.
+use mathlib.Core.Path.{_≡_}
 use mathlib.Core.List.{List}
 use mathlib.Core.Logic.{_⊎_}
 use Rattle.fairness.specs.Leximin.{Level, NoHigher, Equal, Higher, profile}
@@ -14,5 +15,5 @@ pub record HighestList (b : Book) (xs : List Level) : Type 0 where
   pub sheet : Grid
   pub a-sheet : SheetOf b sheet
   pub lawful : Lawful b sheet
-  pub its-list : Equal NoHigher (profileOf b sheet) xs
+  pub its-list : profileOf b sheet ≡ xs
   pub most : (t : Grid) → SheetOf b t → Lawful b t → Equal NoHigher (profileOf b t) xs ⊎ Higher NoHigher (profileOf b t) xs

@@ -1,0 +1,153 @@
+-- The rules of paper 01 and demand 3: a mark passes exactly where the sheet's list is the book's highest. Stated with the definitions
+-- of specs/ alone; the other files of this folder work towards them.
+use mathlib.Core.Path.{_≡_, refl, sym, ap, _∙_, subst}
+use mathlib.Core.Bool.{Bool, true, false, true≢false}
+use mathlib.Core.Logic.{_⊎_, inl, inr, _↔_}
+use mathlib.Core.List.{List, [], _∷_}
+use Prim.Native.Nat.{ℕ, _<_}
+use lib.ListN.{getD}
+use Rattle.fairness.specs.Classes.{weightOf}
+use Rattle.fairness.specs.Instance.{Proper, Feasible, Wasteful, total}
+use Rattle.fairness.specs.Leximin.{Level, NoHigher, Equal, Higher, profile, Highest}
+use Rattle.fairness.specs.Exchange.{Move, playAll, PlaysOut, Improvable, Settled, improvesAt}
+use Rattle.fairness.proofs.Theorems as fairness
+use Rattle.model.specs.Book.{Book, Grid, SheetOf, Lawful, cell, seats, windows, instanceOf, totals}
+use Rattle.model.specs.Fair.{profileOf, HighestList}
+use Rattle.model.specs.Search.{Found, PathOn}
+use Rattle.model.specs.Marks.{Mark, wasteful, improvable, tied, settled, Marked, markOf, passes}
+use Rattle.model.proofs.Grids.{table-same, gridOf, gridOf-cell, gridOf-shaped, agree-feasible, agree-profile}
+use Rattle.model.proofs.Agree.{agree-settled}
+use Rattle.model.proofs.Marks.{mark-means, waste-of}
+
+weight-positive : (c : ℕ) → 0 < weightOf c
+weight-positive c = ?
+
+module _ (b : Book) where
+  -- every book has positive weights, and its seats have places of their own
+  pub proper : Proper (instanceOf b)
+  unfolding instanceOf
+  proper = record { weights = λ i l. weight-positive (getD (b .classes) i 0); positions = λ i k li lk e. e }
+
+  -- ---- all sheets of functions, and all grids
+
+  -- a feasible sheet of functions is on the used cells a lawful sheet of the book, with the same list
+  as-grid : (T : ℕ → ℕ → ℕ) → Feasible (instanceOf b) T →
+      (t : Grid) × SheetOf b t × Lawful b t × (profile (instanceOf b) T ≡ profileOf b t)
+  unfolding instanceOf
+  as-grid T f = (
+    gridOf (seats b) (windows b) T,
+    gridOf-shaped (seats b) (windows b) T,
+    agree-feasible (instanceOf b) T (cell (gridOf (seats b) (windows b) T)) same f,
+    agree-profile (instanceOf b) T (cell (gridOf (seats b) (windows b) T)) same,
+  )
+    where
+      same : (i j : ℕ) → i < seats b → j < windows b → T i j ≡ cell (gridOf (seats b) (windows b) T) i j
+      same i j li lj = sym (gridOf-cell (seats b) (windows b) T i j li lj)
+
+  -- a lawful sheet's list is the book's highest exactly where the sheet is highest among all feasible sheets of functions
+  pub highest-list : (s : Grid) → SheetOf b s → Lawful b s → HighestList b (profileOf b s) ↔ Highest (instanceOf b) (cell s)
+  highest-list s shape lawful = (
+    λ h. record { feasible = lawful; most = λ T f. most h T (as-grid T f) },
+    λ h. record { sheet = s; a-sheet = shape; lawful = lawful; its-list = refl; most = λ t shape-t lawful-t. h .most (cell t) lawful-t },
+  )
+    where
+      most : HighestList b (profileOf b s) → (T : ℕ → ℕ → ℕ) →
+          (t : Grid) × SheetOf b t × Lawful b t × (profile (instanceOf b) T ≡ profileOf b t) →
+          Equal NoHigher (profile (instanceOf b) T) (profileOf b s) ⊎ Higher NoHigher (profile (instanceOf b) T) (profileOf b s)
+      most h T t = rw (t .3) (h .most (t .0) (t .1) (t .2))
+
+  -- ---- the highest list of a book
+
+  -- its sheet is highest
+  highest-sheet : (xs : List Level) (h : HighestList b xs) → Highest (instanceOf b) (cell (h .sheet))
+  highest-sheet xs h = highest-list (h .sheet) (h .a-sheet) (h .lawful) .0 (rw (← h .its-list) at h)
+
+  -- every book has one
+  pub highest-list-exists : (xs : List Level) × HighestList b xs
+  highest-list-exists =
+      let top = fairness.highest-exists (instanceOf b) proper in
+      let t = as-grid (top .0) (top .1 .feasible) in (
+        profileOf b (t .0),
+        record {
+          sheet = t .0;
+          a-sheet = t .1;
+          lawful = t .2;
+          its-list = refl;
+          most = λ u shape-u lawful-u. rw (← t .3) (top .1 .most (cell u) lawful-u);
+        },
+      )
+
+  -- and any two are equal
+  pub highest-lists-equal : (xs ys : List Level) → HighestList b xs → HighestList b ys → Equal NoHigher xs ys
+  highest-lists-equal xs ys h k =
+      rw (← h .its-list, ← k .its-list)
+      (fairness.highest-same (instanceOf b) proper (cell (h .sheet)) (cell (k .sheet)) (highest-sheet xs h) (highest-sheet ys k))
+
+  module _ (s : Grid) (shape : SheetOf b s) (lawful : Lawful b s) where
+    -- ---- demand 3, for the mark that the rules compute
+
+    -- what a mark says decides whether the sheet is highest
+    marked-highest : (m : Mark) → Marked b s m → (passes m ≡ true) ↔ Highest (instanceOf b) (cell s)
+    marked-highest (wasteful j i) h = (
+      λ e. absurd (true≢false (sym e)),
+      λ top. absurd (fairness.highest-iff (instanceOf b) proper (cell s) lawful .0 top .0 (waste-of b s j i h)),
+    )
+    marked-highest (improvable f) h = (
+      λ e. absurd (true≢false (sym e)),
+      λ top. absurd (fairness.highest-iff (instanceOf b) proper (cell s) lawful .0 top .1 (record {
+        receiver = f .receiver;
+        donor = f .donor;
+        moves = h .1 .shortest .moves;
+        path = h .1 .shortest .path;
+        wanted = h .1 .passes;
+      })),
+    )
+    marked-highest (tied f) h = (λ e. fairness.highest-iff (instanceOf b) proper (cell s) lawful .1 (h .0, h .1), λ top. refl)
+    marked-highest settled h = (λ e. fairness.highest-iff (instanceOf b) proper (cell s) lawful .1 (h .0, h .1), λ top. refl)
+
+    -- a lawful sheet passes exactly when its list is the highest list of the book
+    pub passes-highest : (passes (markOf b s) ≡ true) ↔ HighestList b (profileOf b s)
+    passes-highest =
+        let m = marked-highest (markOf b s) (mark-means b s (markOf b s) .0 refl) in
+        (λ e. highest-list s shape lawful .1 (m .0 e), λ h. m .1 (highest-list s shape lawful .0 h))
+
+    -- that is, exactly when its list equals the highest of all lawful sheets
+    pub passes-equal : (xs : List Level) → HighestList b xs → (passes (markOf b s) ≡ true) ↔ Equal NoHigher (profileOf b s) xs
+    passes-equal xs h = (
+      λ e. highest-lists-equal (profileOf b s) xs (passes-highest .0 e) h,
+      λ e. passes-highest .1 (highest-list s shape lawful .1
+          (fairness.same-highest (instanceOf b) proper (cell s) (cell (h .sheet)) lawful (rw (← h .its-list) at e) (highest-sheet xs h))),
+    )
+
+    -- an improvable sheet's path, played move by move, is possible at every turn and ends in a lawful sheet with a higher list
+    pub improvable-plays : (f : Found) → markOf b s ≡ improvable f → (ms : List Move) → PathOn b s (f .receiver) (f .donor) ms →
+        PlaysOut (instanceOf b) (cell s) ms × Feasible (instanceOf b) (playAll (cell s) ms)
+        × Higher NoHigher (profileOf b s) (profile (instanceOf b) (playAll (cell s) ms))
+    improvable-plays f e ms path =
+        let picked = mark-means b s (improvable f) .0 e .1 in
+        let better = fairness.path-improves (instanceOf b) proper (cell s) lawful (f .receiver) (f .donor) ms path (picked .passes) in
+        (fairness.path-plays (instanceOf b) (cell s) (f .receiver) (f .donor) ms path, better .0, better .1)
+
+    -- a lawful sheet is marked settled exactly when it is settled
+    pub settled-mark : (markOf b s ≡ settled) ↔ Settled (instanceOf b) (cell s)
+    settled-mark = (
+      λ e. let h = mark-means b s settled .0 e in record { feasible = lawful; full = h .0; fair = h .1; ordered = h .2 },
+      λ h. mark-means b s settled .1 (h .full, h .fair, h .ordered),
+    )
+
+  -- all settled sheets of a book have the same totals
+  pub settled-totals : (s t : Grid) → Settled (instanceOf b) (cell s) → Settled (instanceOf b) (cell t) → totals b s ≡ totals b t
+  unfolding totals instanceOf
+  settled-totals s t h k =
+      table-same (seats b) _ _ (λ i l. fairness.settled-totals (instanceOf b) proper (cell s) (cell t) h k i l)
+
+  -- and a book has a settled sheet
+  pub settled-exists : (s : Grid) × SheetOf b s × Settled (instanceOf b) (cell s)
+  unfolding instanceOf
+  settled-exists =
+      let top = fairness.settled-exists (instanceOf b) proper in
+      let t = gridOf (seats b) (windows b) (top .0) in
+      (t, gridOf-shaped (seats b) (windows b) (top .0), agree-settled (instanceOf b) (top .0) (cell t) (same (top .0)) (top .1))
+    where
+      same : (T : ℕ → ℕ → ℕ) (i j : ℕ) → i < seats b → j < windows b → T i j ≡ cell (gridOf (seats b) (windows b) T) i j
+      same T i j li lj = sym (gridOf-cell (seats b) (windows b) T i j li lj)
