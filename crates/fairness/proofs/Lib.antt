@@ -1,7 +1,8 @@
 -- The mathematics of leximin-fair sheets. Theorems.antt has what others cite; the other files work towards it.
 
--- numbers, decisions and lists
+-- numbers, truth values, decisions and lists
 pub mod Sums
+pub mod Bools
 pub mod Decide
 pub mod Lists
 -- exchange paths: by layers, and played
@@ -27,3 +28,5 @@ pub mod Settle
 pub mod Certificate
 -- what others cite
 pub mod Theorems
+-- for the functions of src/
+pub mod Weights

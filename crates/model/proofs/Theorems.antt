@@ -6,11 +6,11 @@ use mathlib.Core.Logic.{_⊎_, inl, inr, _↔_}
 use mathlib.Core.List.{List, [], _∷_}
 use Prim.Native.Nat.{ℕ, _<_}
 use lib.ListN.{getD}
-use Rattle.fairness.specs.Classes.{weightOf}
 use Rattle.fairness.specs.Instance.{Proper, Feasible, Wasteful, total}
 use Rattle.fairness.specs.Leximin.{Level, NoHigher, Equal, Higher, profile, Highest}
 use Rattle.fairness.specs.Exchange.{Move, playAll, PlaysOut, Improvable, Settled, improvesAt}
 use Rattle.fairness.proofs.Theorems as fairness
+use Rattle.fairness.proofs.Weights.{weight-bounds}
 use Rattle.model.specs.Book.{Book, Grid, SheetOf, Lawful, cell, seats, windows, instanceOf, totals}
 use Rattle.model.specs.Fair.{profileOf, HighestList}
 use Rattle.model.specs.Search.{Found, PathOn}
@@ -19,14 +19,11 @@ use Rattle.model.proofs.Grids.{table-same, gridOf, gridOf-cell, gridOf-
 use Rattle.model.proofs.Agree.{agree-settled}
 use Rattle.model.proofs.Marks.{mark-means, waste-of}
 
-weight-positive : (c : ℕ) → 0 < weightOf c
-weight-positive c = ?
-
 module _ (b : Book) where
   -- every book has positive weights, and its seats have places of their own
   pub proper : Proper (instanceOf b)
   unfolding instanceOf
-  proper = record { weights = λ i l. weight-positive (getD (b .classes) i 0); positions = λ i k li lk e. e }
+  proper = record { weights = λ i l. weight-bounds (getD (b .classes) i 0) .0; positions = λ i k li lk e. e }
 
   -- ---- all sheets of functions, and all grids
 
