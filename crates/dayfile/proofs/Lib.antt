@@ -10,3 +10,8 @@ pub mod Rising
 pub mod Container
 pub mod Optional
 pub mod WrittenReads
+pub mod ReadWrites
+pub mod Accepted
+pub mod Lengths
+pub mod Held
+pub mod Theorems

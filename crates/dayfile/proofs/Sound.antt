@@ -65,12 +65,12 @@ cond-when : (t x y : Bool) → cond t x y ≡ true → t ≡ true → x ≡ true
 cond-when true x y e h = e
 cond-when false x y e h = let z : _≡_ {A = ℕ} 0 1 = cc in absurd (omega arith)
 
-record Even (low high n : ℕ) : Type 0 where
-  least : low ≤ n
-  most : n ≤ high
-  even : n % 2 ≡ 0
+pub record Even (low high n : ℕ) : Type 0 where
+  pub least : low ≤ n
+  pub most : n ≤ high
+  pub even : n % 2 ≡ 0
 
-even-size : (low high n p : ℕ) → when (not (sizeRight low high n)) p ≡ none → Even low high n
+pub even-size : (low high n p : ℕ) → when (not (sizeRight low high n)) p ≡ none → Even low high n
 unfolding sizeRight
 even-size low high n p e =
     let b = both-true (within low high n) (eqb (n % 2) 0) (kept (sizeRight low high n) p e) in

@@ -34,6 +34,13 @@ within-low low high x e = leb-true low x (both-true (leb low x) (leb x high) e .
 pub within-high : (low high x : ℕ) → within low high x ≡ true → x ≤ high
 within-high low high x e = leb-true x high (both-true (leb low x) (leb x high) e .1)
 
+-- the same of a number that equals it
+pub low-as : (low high : ℕ) {x y : ℕ} → x ≡ y → within low high y ≡ true → low ≤ x
+low-as low high {x} {y} q e = within-low low high x (ap (within low high) q ∙ e)
+
+pub high-as : (low high : ℕ) {x y : ℕ} → x ≡ y → within low high y ≡ true → x ≤ high
+high-as low high {x} {y} q e = within-high low high x (ap (within low high) q ∙ e)
+
 pub is-within : (low high x : ℕ) → low ≤ x → x ≤ high → within low high x ≡ true
 is-within low high x h k = ap₂ (λ (a b : Bool). a && b) (le-leb low x h) (le-leb x high k)
 
