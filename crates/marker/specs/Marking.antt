@@ -1,6 +1,7 @@
 -- What the marker answers for a file and an output buffer, and what the buffer holds afterwards.
 use mathlib.Core.Path.{_≡_}
 use mathlib.Core.List.{List, [], _∷_}
+use mathlib.Core.Logic.{_⊎_}
 use Prim.Native.Nat.{ℕ, zero, suc, _+_, _-_, _*_}
 use lib.ListN.{length, getD, drop}
 use Rattle.fairness.specs.Exchange.{Move}
@@ -69,3 +70,8 @@ BufferAfter b s (answer settled) before after = after ≡ before
 pub record Marks (file before after : List ℕ) (r : Marking) : Type 0 where
   pub says : told r ≡ results (markFile file (length before))
   pub buffer : BufferAfter (bookOf file) (sheetIn file) (markFile file (length before)) before after
+
+-- the sheet passes: the answer is mark 3 or 4
+abbrev pub Passing : Outcome Result → Type 0
+Passing (turnedAway q) = ⊥
+Passing (answer r) = (r .mark ≡ 3) ⊎ (r .mark ≡ 4)
