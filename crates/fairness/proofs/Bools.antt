@@ -1,5 +1,5 @@
 -- Laws of truth values: the parts of a true `&&` or `||`, and what it is where its first part is known.
-use mathlib.Core.Path.{_≡_, refl, sym}
+use mathlib.Core.Path.{_≡_, refl}
 use mathlib.Core.Bool.{Bool, true, false, _&&_, _||_, false≢true, true≢false}
 use mathlib.Core.Logic.{_⊎_, inl, inr}
 

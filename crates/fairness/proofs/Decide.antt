@@ -3,7 +3,7 @@
 use mathlib.Core.Path.{_≡_, refl, sym, _∙_, subst}
 use mathlib.Core.Logic.{_⊎_, inl, inr, ⊎-elim}
 use Prim.Native.Nat.{ℕ, zero, suc, _+_, _≤_, _<_}
-use native.Mathlib.Nat.{le-refl, le-of-eq}
+use native.Mathlib.Nat.{le-refl}
 use native.Mathlib.Decide.{decLe, decLt, ℕ-discrete}
 use native.Mathlib.Omega.{arith}
 use Rattle.fairness.specs.Sums.{sum, keep}
@@ -47,10 +47,6 @@ keep-yes (no p) x q = absurd (p q)
 pub keep-no : {P : Type 0} (d : Dec P) (x : ℕ) → (P → ⊥) → keep d x ≡ 0
 keep-no (yes p) x q = absurd (q p)
 keep-no (no p) x q = refl
-
-pub keep-into : {P Q : Type 0} (d : Dec P) (e : Dec Q) (x : ℕ) → (P → Q) → keep d x ≤ keep e x
-keep-into (yes p) e x f = le-of-eq (sym (keep-yes e x (f p)))
-keep-into (no p) e x f = omega arith
 
 -- ---- search below a bound
 

@@ -28,10 +28,6 @@ Tie I g l = Lex (I .weight g) (I .position g < I .position l) (I .weight l)
 abbrev pub Precedes : Instance → Order
 Precedes I g a l b = Lex (a * I .weight l) (Tie I g l) (b * I .weight g)
 
-pub precedes? : (I : Instance) (g a l b : ℕ) → Dec (Precedes I g a l b)
-precedes? I g a l b =
-    lex? (a * I .weight l) (b * I .weight g) (lex? (I .weight g) (I .weight l) (decLt (I .position g) (I .position l)))
-
 -- ---- units
 
 unfoldable pub L : Instance → ℕ

@@ -28,5 +28,8 @@ pub mod Settle
 pub mod Certificate
 -- what others cite
 pub mod Theorems
+-- that the definitions are met
+pub mod Examples
 -- for the functions of src/
 pub mod Weights
+pub mod Products

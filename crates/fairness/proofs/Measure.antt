@@ -1,5 +1,5 @@
 -- A measure that each wanted exchange lowers: the potential first, and at a tie the sum of position × height.
-use mathlib.Core.Path.{_≡_, refl, sym, ap}
+use mathlib.Core.Path.{_≡_, refl, ap}
 use mathlib.Core.Logic.{inl, inr}
 use Prim.Native.Nat.{ℕ, suc, _+_, _*_, _≤_, _<_}
 use native.Mathlib.Nat.{mul-suc, suc-mul, mul-le-mul-left, mul-le-mul-right}

@@ -2,7 +2,7 @@
 -- only totals of its kind.
 use mathlib.Core.Path.{_≡_}
 use mathlib.Core.Logic.{_⊎_, inl, inr}
-use Prim.Native.Nat.{ℕ, _+_, _<_}
+use Prim.Native.Nat.{ℕ, _<_}
 use native.Mathlib.Nat.{le-refl}
 use native.Mathlib.Omega.{arith}
 use Rattle.fairness.specs.Instance.{Instance, Proper, Sheet, Feasible, Wasteful, height, total}
@@ -11,7 +11,7 @@ use Rattle.fairness.specs.Exchange.{Improvable, Settled}
 use Rattle.fairness.proofs.Lex.{NoPath}
 use Rattle.fairness.proofs.Potential.{potential-least}
 use Rattle.fairness.proofs.Unique.{unique}
-use Rattle.fairness.proofs.Levels.{Prefers, Precedes, u, u-pos, units-prefers, units-precedes, ranking}
+use Rattle.fairness.proofs.Levels.{Prefers, u, u-pos, units-prefers, units-precedes, ranking}
 use Rattle.fairness.proofs.Wanted.{unimprovable, unexchangeable}
 use Rattle.fairness.proofs.Profiles.{bound, B, big, Better-potential, same-higher-lower}
 

@@ -1,5 +1,5 @@
 -- Profiles and potentials: of two sheets, the one with the higher profile has the lower potential, and the other way round.
-use mathlib.Core.Path.{_≡_, refl, sym, ap, _∙_, subst₂}
+use mathlib.Core.Path.{_≡_, sym, ap, _∙_, subst₂}
 use mathlib.Core.Logic.{_⊎_, inl, inr, _↔_}
 use mathlib.Core.List.{List, map}
 use Prim.Native.Nat.{ℕ, _+_, _-_, _*_, _^_, _≤_, _<_}
@@ -7,7 +7,7 @@ use native.Mathlib.Decide.{decLe}
 use native.Mathlib.Omega.{arith}
 use lib.ListN.{length, length-map}
 use Rattle.fairness.specs.Instance.{Instance, Proper, Sheet, height}
-use Rattle.fairness.specs.Leximin.{Equal, Higher, sort, table, Level, NoHigher, noHigher?, levels, profile, SameProfile, Better}
+use Rattle.fairness.specs.Leximin.{Equal, Higher, sort, Level, NoHigher, noHigher?, levels, profile, SameProfile, Better}
 use Rattle.fairness.specs.Exchange.{All}
 use Rattle.fairness.proofs.Lists.{listSum, map-sum, All-sum, table-sum, table-All, table-length}
 use Rattle.fairness.proofs.Sorting.{Equal-sym, Equal-not-Higher, Higher-asym, Equal-trans, trichotomy}

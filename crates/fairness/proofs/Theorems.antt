@@ -25,7 +25,8 @@ use Rattle.fairness.proofs.Optimal
 use Rattle.fairness.proofs.Progress
 use Rattle.fairness.proofs.Settle
 use Rattle.fairness.proofs.Certificate
-use Rattle.fairness.proofs.Measure.{measure, measure-less}
+use Rattle.fairness.proofs.Measure.{measure-less}
+pub use Rattle.fairness.proofs.Measure.{measure}
 
 -- ---- cuts: what a group of seats can hold
 

@@ -9,7 +9,7 @@ use native.Mathlib.Decide.{decLt}
 use native.Mathlib.Omega.{arith}
 use Rattle.fairness.specs.Sums.{sum, keep}
 use Rattle.fairness.specs.Instance.{Instance, Sheet, Feasible, Wasteful, height}
-use Rattle.fairness.specs.Exchange.{Move, Possible, Path}
+use Rattle.fairness.specs.Exchange.{Move, Path}
 use Rattle.fairness.specs.Cuts.{Closed, Target, count}
 use Rattle.fairness.proofs.Sums.{sum-add-le, sum-mono, sum-zero, sum-suc, sum-le, sum-eq}
 use Rattle.fairness.proofs.Decide.{drop, keep-yes, keep-no, keep-most, nn-decided, le-stable}

@@ -1,6 +1,6 @@
 -- The two tests of an exchange path as orders of credits, and what a wanted path has at its ends.
-use mathlib.Core.Path.{_≡_, refl, sym, ap, _∙_, subst}
-use mathlib.Core.Bool.{Bool, true, false, _&&_, _||_, false≢true}
+use mathlib.Core.Path.{_≡_, ap, subst}
+use mathlib.Core.Bool.{Bool, true, _&&_, _||_}
 use mathlib.Core.Logic.{_⊎_, inl, inr}
 use mathlib.Core.List.{List, [], _∷_}
 use Prim.Native.Nat.{ℕ, suc, _+_, _-_, _*_, _≤_, _<_}
@@ -11,26 +11,11 @@ use borrow.Author.Tests.{ltb-true, eqb-true, lt-ltb, eq-eqb}
 use Rattle.fairness.specs.Instance.{Instance, Proper, Sheet, height}
 use Rattle.fairness.specs.Exchange.{Move, Possible, All, Linked, Path, improves, tiesWrongly, improvesAt, tiesAt, Improvable, Tied}
 use Rattle.fairness.proofs.Sums.{sum-term}
+use Rattle.fairness.proofs.Bools.{or-parts, or-right, and-parts, and-true}
 use Rattle.fairness.proofs.Lex.{Order, Lex, NoPath}
 use Rattle.fairness.proofs.Levels.{Prefers, Precedes}
 
 -- ---- the tests on numbers
-
-or-parts : (a b : Bool) → (a || b) ≡ true → (a ≡ true) ⊎ (b ≡ true)
-or-parts true b e = inl refl
-or-parts false b e = inr e
-
-and-parts : (a b : Bool) → (a && b) ≡ true → (a ≡ true) × (b ≡ true)
-and-parts true b e = (refl, e)
-and-parts false b e = absurd (false≢true e)
-
-and-true : (a b : Bool) → a ≡ true → b ≡ true → (a && b) ≡ true
-and-true true b p q = q
-and-true false b p q = p
-
-or-right : (a b : Bool) → b ≡ true → (a || b) ≡ true
-or-right true b q = refl
-or-right false b q = q
 
 lex-true : (x y v w : ℕ) → (ltb x y || (eqb x y && ltb v w)) ≡ true → Lex x (v < w) y
 lex-true x y v w e = go (or-parts (ltb x y) (eqb x y && ltb v w) e)

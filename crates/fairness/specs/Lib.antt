@@ -6,3 +6,4 @@ pub mod Leximin
 pub mod Exchange
 pub mod Layers
 pub mod Cuts
+pub mod Numbers
