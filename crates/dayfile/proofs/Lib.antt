@@ -2,6 +2,7 @@
 pub mod Tests
 pub mod Search
 pub mod Lines
+pub mod Answers
 pub mod Tables
 pub mod Fields
 pub mod Grids

@@ -2,6 +2,9 @@
 ghost use mathlib.Core.Path.{_≡_};
 ghost use Rattle.dayfile.specs.Table.{within};
 
+// The last kind that is known.
+pub const KNOWN: usize = 4;
+
 // Where a line of the table of refusals holds.
 pub enum Found {
     At(usize),
