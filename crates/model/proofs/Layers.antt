@@ -96,7 +96,8 @@ module _ (b : Book) (s : Grid) where
             Within (instanceOf b) (cell s) (suc r) g l
         to ih p = go (p .1)
           where
-            go : In l (layer b s g r) ⊎ ((k : ℕ) × (In k (layer b s g r) × (canTake b s k l ≡ true))) → Within (instanceOf b) (cell s) (suc r) g l
+            go : In l (layer b s g r) ⊎ ((k : ℕ) × (In k (layer b s g r) × (canTake b s k l ≡ true))) →
+                Within (instanceOf b) (cell s) (suc r) g l
             go (inl i) = inl (ih l i)
             go (inr w) =
                 let lk = within-seat r (w .0) (ih (w .0) (w .1 .0)) in

@@ -18,7 +18,7 @@ use Rattle.model.specs.Book.{Book, Grid, cell, seats, windows, instanceO
 use Rattle.model.specs.Search.{Found, Picked, search}
 use Rattle.model.specs.Marks.{Mark, wasteful, improvable, tied, settled, Wasted, Marked, seatBelow, wastedWindow, markOf}
 use Rattle.model.proofs.Tests.{and-true, or-true, not-true, true-not-false}
-use Rattle.model.proofs.Lowest.{Lowest, Fails, lowest-is, lowest-fails, lowest-some, lowest-none, lowest-cases, isSome-lowest, isSome-Lowest}
+use Rattle.model.proofs.Lowest.{Lowest, Fails, lowest-is, lowest-fails, lowest-cases, isSome-lowest, isSome-Lowest}
 use Rattle.model.proofs.Meaning.{search-cases, search-some, search-none}
 
 module _ (b : Book) (s : Grid) where
@@ -80,7 +80,11 @@ module _ (b : Book) (s : Grid) where
   wasted-is : (j i : ℕ) → Wasted b s j i → (wastedWindow b s ≡ some j) × (seatBelow b s j ≡ some i)
   unfolding wastedWindow wastes seatBelow below instanceOf waste-of
   wasted-is j i h = (
-    lowest-is (windows b) wastes j (record { below = h .window; passes = wastes-at (waste-of j i h) .1; least = λ k lk. not-true _ (earlier k lk) }),
+    lowest-is (windows b) wastes j (record {
+      below = h .window;
+      passes = wastes-at (waste-of j i h) .1;
+      least = λ k lk. not-true _ (earlier k lk);
+    }),
     lowest-is (seats b) (below j) i (record {
       below = h .seat;
       passes = lt-ltb _ _ (h .room);

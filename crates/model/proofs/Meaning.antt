@@ -16,7 +16,7 @@ use Rattle.model.specs.Lowest.{lowest, isSome, andThen}
 use Rattle.model.specs.Book.{Book, Grid, cell, seats, windows, instanceOf}
 use Rattle.model.specs.Search.{Found, PathOn, Shortest, Picked, member, layer, reached, fewest, donorOf, firstReceiver, search}
 use Rattle.model.proofs.Tests.{and-true, not-true, true-not-false}
-use Rattle.model.proofs.Lowest.{Lowest, Fails, lowest-is, lowest-fails, lowest-some, lowest-none, lowest-cases, isSome-lowest, isSome-Lowest}
+use Rattle.model.proofs.Lowest.{Lowest, Fails, lowest-is, lowest-fails, lowest-some, lowest-cases, isSome-lowest, isSome-Lowest}
 use Rattle.model.proofs.Sets.{In}
 use Rattle.model.proofs.Layers.{within-seat, layer-within}
 
@@ -97,8 +97,9 @@ module _ (b : Book) (s : Grid) where
     unfolding fewest reached
     reached-fewest l i =
         let w = within-seats (instanceOf b) (cell s) (seats b) g l (of-seats g .0 lg) (layer-within b s g lg (seats b) l .0 i) in
+        let in-layer = layer-within b s g lg (w .0) l .1 (w .2) in
         let found = isSome-Lowest (seats b) (λ r. member l (layer b s g r))
-        (isSome-lowest (seats b) (λ r. member l (layer b s g r)) (w .0) (of-seats (w .0) .1 (w .1)) (layer-within b s g lg (w .0) l .1 (w .2))) in
+        (isSome-lowest (seats b) (λ r. member l (layer b s g r)) (w .0) (of-seats (w .0) .1 (w .1)) in-layer) in
         (found .0, lowest-is (seats b) (λ r. member l (layer b s g r)) (found .0) (found .1))
 
   module _ (test : ℕ → ℕ → Bool) (apart : (g : ℕ) → test g g ≡ false) where
@@ -133,7 +134,8 @@ module _ (b : Book) (s : Grid) where
     has-donor g e = isSome-Lowest (seats b) (wanted g) e
 
     -- a receiver before all that have donors has none
-    no-donor : (g : ℕ) → g < seats b → ((l : ℕ) (ms : List Move) → PathOn b s g l ms → test g l ≡ false) → isSome (donorOf b s test g) ≡ false
+    no-donor : (g : ℕ) → g < seats b → ((l : ℕ) (ms : List Move) → PathOn b s g l ms → test g l ≡ false) →
+        isSome (donorOf b s test g) ≡ false
     no-donor g lg none-passes = not-true _ (λ e.
         let found = has-donor g e in
         let p = donor-path g lg (found .0) (found .1 .passes) in
@@ -153,7 +155,9 @@ module _ (b : Book) (s : Grid) where
         let donor-is : donorOf b s test g ≡ some l = lowest-is (seats b) (wanted g) l (record {
           below = donor-seat g l (p .seat) (path-ends g l (p .shortest .moves) way);
           passes = and-true _ _ .1 (reached-means g (p .seat) l .1 (p .shortest .moves, way), p .passes);
-          least = λ k lk. not-true _ (λ e. let q = donor-path g (p .seat) k e in true-not-false _ (q .1) (p .lowest-donor k (q .0 .0) lk (q .0 .1)));
+          least = λ k lk. not-true _ (λ e.
+              let q = donor-path g (p .seat) k e in
+              true-not-false _ (q .1) (p .lowest-donor k (q .0 .0) lk (q .0 .1)));
         }) in
         rw (receiver-is, donor-is, fewest-means g (p .seat) l (f .moves) .1 (p .shortest)) refl
       where

@@ -59,7 +59,10 @@ in-filter test x (y ∷ ys) = go (in-filter test x ys) (test y) refl
   where
     go : In x (filter test ys) ↔ (In x ys × (test x ≡ true)) → (t : Bool) → test y ≡ t →
         In x (consIf t y (filter test ys)) ↔ (In x (y ∷ ys) × (test x ≡ true))
-    go ih true e = (λ i. to (in-cons x y (filter test ys) .0 i), λ p. in-cons x y (filter test ys) .1 (from (in-cons x y ys .0 (p .0)) (p .1)))
+    go ih true e = (
+      λ i. to (in-cons x y (filter test ys) .0 i),
+      λ p. in-cons x y (filter test ys) .1 (from (in-cons x y ys .0 (p .0)) (p .1)),
+    )
       where
         to : (x ≡ y) ⊎ In x (filter test ys) → In x (y ∷ ys) × (test x ≡ true)
         to (inl q) = (in-cons x y ys .1 (inl q), ap test q ∙ e)
