@@ -1,0 +1,177 @@
+-- The book and the sheet of a file that no line turns away are within paper 01's bounds; so is a book that the writer's lines take.
+-- Assumes nothing.
+use mathlib.Core.Bool.{Bool, true}
+use mathlib.Core.List.{List, _∷_, _++_}
+use mathlib.Core.Option.{Option, none, some}
+use mathlib.Core.Path.{_≡_, refl, sym, _∙_, ap, ap₂, subst}
+use Prim.Native.Nat.{ℕ, _+_, _*_, _/_, _%_, _≤_, _<_}
+use native.Mathlib.Nat.{mul-le-mul-right}
+use native.Mathlib.Omega.{arith}
+use lib.ListN.{length, getD}
+use Rattle.model.specs.Lowest.{lowest, andThen}
+use Rattle.model.specs.Book.{Book, Grid, Shaped, SheetOf, cell, seats, windows}
+use Rattle.dayfile.specs.Bounds.{Fit, SheetFit, TwoByte}
+use Rattle.dayfile.specs.Layout.{Bytes, field, start, size, seatsIn, windowsIn, sizeAt, entryOf, fieldsAt, gridAt, bookOf, sheetOf}
+use Rattle.dayfile.specs.File.{Part, part, flat, optParts, partsOf, assemble, fileOf}
+use Rattle.dayfile.specs.Table.{firstOf, within, line7, line8, line10, line11, line12, valueLines, optionLines, bufferLines, writeLines}
+use Rattle.dayfile.proofs.Tests.{low-as, high-as}
+use Rattle.dayfile.proofs.Lines.{none-holds, none-parts}
+use Rattle.dayfile.proofs.Fields.{field-small, fields-length, fields-at, grid-shaped, grid-cell}
+use Rattle.dayfile.proofs.Grids.{flat-length, flat-at}
+use Rattle.dayfile.proofs.Container.{nth, size-is, body-is}
+use Rattle.dayfile.proofs.Sound.{Sound, FieldsWithin, Even, even-size, none-outside}
+
+-- ---- a file that is read
+
+pub seats-are : (f : List ℕ) → seats (bookOf f) ≡ seatsIn f
+unfolding bookOf
+seats-are f = fields-length f (start f 0) (seatsIn f)
+
+pub windows-are : (f : List ℕ) → windows (bookOf f) ≡ windowsIn f
+unfolding bookOf
+windows-are f = fields-length f (start f 1) (windowsIn f)
+
+-- a cell's number is below the number of cells
+cell-inside : (n m i j : ℕ) → i < n → j < m → i * m + j < n * m
+cell-inside n m i j h k = let l = mul-le-mul-right m h in omega arith
+
+shaped-as : (n m n′ m′ : ℕ) (g : Grid) → n ≡ n′ → m ≡ m′ → Shaped n m g → Shaped n′ m′ g
+shaped-as n m n′ m′ g p q s =
+    record { rows = s .rows ∙ p; row = λ i h. s .row i (omega arith) ∙ q }
+
+module _ (f : List ℕ) where
+  seat-field : (i : ℕ) → i < seatsIn f → getD (bookOf f .classes) i 0 ≡ field f (start f 0 + 2 * i)
+  unfolding bookOf
+  seat-field i h = fields-at f (start f 0) (seatsIn f) i h
+
+  window-field : (j : ℕ) → j < windowsIn f → getD (bookOf f .supplies) j 0 ≡ field f (start f 1 + 2 * j)
+  unfolding bookOf
+  window-field j h = fields-at f (start f 1) (windowsIn f) j h
+
+  cap-field : (i j : ℕ) → i < seatsIn f → j < windowsIn f
+      → cell (bookOf f .caps) i j ≡ field f (start f 2 + 2 * (i * windowsIn f + j))
+  unfolding bookOf
+  cap-field i j h k = grid-cell f (start f 2) (seatsIn f) (windowsIn f) i j h k
+
+  pub cap-shaped : Shaped (seats (bookOf f)) (windows (bookOf f)) (bookOf f .caps)
+  unfolding bookOf
+  cap-shaped =
+      shaped-as (seatsIn f) (windowsIn f) _ _ (gridAt f (start f 2) (seatsIn f) (windowsIn f)) (sym (seats-are f)) (sym (windows-are f))
+      (grid-shaped f (start f 2) (seatsIn f) (windowsIn f))
+
+  sheet-shaped : (r : Option ℕ) → SheetFit (bookOf f) (andThen r (λ e. some (gridAt f (start f e) (seatsIn f) (windowsIn f))))
+  sheet-shaped none = tt
+  sheet-shaped (some e) =
+      shaped-as (seatsIn f) (windowsIn f) _ _ (gridAt f (start f e) (seatsIn f) (windowsIn f)) (sym (seats-are f)) (sym (windows-are f))
+      (grid-shaped f (start f e) (seatsIn f) (windowsIn f))
+
+  pub sheet-fits : SheetFit (bookOf f) (sheetOf f)
+  unfolding sheetOf
+  sheet-fits = sheet-shaped (entryOf f 4)
+
+  sheet-small : Bytes f → (r : Option ℕ)
+      → TwoByte (bookOf f) (andThen r (λ e. some (gridAt f (start f e) (seatsIn f) (windowsIn f))))
+  sheet-small by none = tt
+  sheet-small by (some e) = λ i j h k.
+      let s = seats-are f in
+      let w = windows-are f in
+      let c = grid-cell f (start f e) (seatsIn f) (windowsIn f) i j (omega arith) (omega arith) in
+      let l = field-small f by (start f e + 2 * (i * windowsIn f + j)) in omega arith
+
+  pub sheet-two-byte : Bytes f → TwoByte (bookOf f) (sheetOf f)
+  unfolding sheetOf
+  sheet-two-byte by = sheet-small by (entryOf f 4)
+
+pub fits : (f : List ℕ) → Sound f → Fit (bookOf f)
+fits f s =
+    let n = seats-are f in
+    let m = windows-are f in
+    let sl = s .seats-low in
+    let sh = s .seats-high in
+    let wl = s .windows-low in
+    let wh = s .windows-high in
+    record {
+      seats-low = omega arith;
+      seats-high = omega arith;
+      windows-low = omega arith;
+      windows-high = omega arith;
+      class-low = λ i h. low-as 1 8 (seat-field f i (omega arith)) (s .classes i (omega arith));
+      class-high = λ i h. high-as 1 8 (seat-field f i (omega arith)) (s .classes i (omega arith));
+      supply-high = λ j h. high-as 0 4095 (window-field f j (omega arith)) (s .supplies j (omega arith));
+      cap-shape = cap-shaped f;
+      cap-high = λ i j h k. high-as 0 4095 (cap-field f i j (omega arith) (omega arith))
+          (s .caps (i * windowsIn f + j) (cell-inside (seatsIn f) (windowsIn f) i j (omega arith) (omega arith)));
+    }
+
+-- ---- a book that is written
+
+module _ (b : Book) (o : Option Grid) (shape : Shaped (seats b) (windows b) (b .caps)) where
+  abbrev ps : List Part
+  ps = part 1 (b .classes) ∷ part 2 (b .supplies) ∷ part 3 (flat (b .caps)) ∷ optParts o
+
+  abbrev file : List ℕ
+  file = assemble (length ps) ps
+
+  size-seats : size file 0 ≡ 2 * seats b
+  size-seats = size-is (length ps) ps refl 0 (omega arith)
+
+  size-windows : size file 1 ≡ 2 * windows b
+  size-windows = size-is (length ps) ps refl 1 (omega arith)
+
+  -- number i of the body of entry e
+  number-at : (e i : ℕ) → e < length ps → i < length (nth ps e .body)
+      → getD (nth ps e .body) i 0 ≡ field file (start file e + 2 * i)
+  number-at e i h k =
+      ap (λ (xs : List ℕ). getD xs i 0) (sym (body-is (length ps) ps refl e h))
+      ∙ fields-at file (start file e) (length (nth ps e .body)) i k
+
+  -- the values that lines 10, 11 and 12 let pass
+  record Values : Type 0 where
+    seats-even : Even 2 64 (size file 0)
+    windows-even : Even 2 48 (size file 1)
+    classes : FieldsWithin file (start file 0) (seatsIn file) 1 8
+    supplies : FieldsWithin file (start file 1) (windowsIn file) 0 4095
+    caps : FieldsWithin file (start file 2) (seatsIn file * windowsIn file) 0 4095
+
+  passed : (room : ℕ) → firstOf (writeLines file room) ≡ none → Values
+  unfolding writeLines valueLines line7 line8 line10 line11 line12
+  passed room e =
+      let n = none-holds (writeLines file room) e in
+      record {
+        seats-even = even-size 2 64 (size file 0) (sizeAt 0) (n .0);
+        windows-even = even-size 2 48 (size file 1) (sizeAt 1) (n .1 .0);
+        classes = none-outside file (start file 0) (seatsIn file) 1 8 (n .1 .1 .0);
+        supplies = none-outside file (start file 1) (windowsIn file) 0 4095 (n .1 .1 .1 .0);
+        caps = none-outside file (start file 2) (seatsIn file * windowsIn file) 0 4095 (n .1 .1 .1 .1 .0);
+      }
+
+  file-fits : (room : ℕ) → firstOf (writeLines file room) ≡ none → Fit b
+  file-fits room free =
+      let v = passed room free in
+      let s = size-seats in
+      let w = size-windows in
+      let sl = v .seats-even .least in
+      let sh = v .seats-even .most in
+      let wl = v .windows-even .least in
+      let wh = v .windows-even .most in
+      let cells : seatsIn file * windowsIn file ≡ seats b * windows b = ap₂ (λ (x y : ℕ). x * y) (omega arith) (omega arith) in
+      let all = flat-length (seats b) (windows b) (b .caps) shape in
+      record {
+        seats-low = omega arith;
+        seats-high = omega arith;
+        windows-low = omega arith;
+        windows-high = omega arith;
+        class-low = λ i h. low-as 1 8 (number-at 0 i (omega arith) h) (v .classes i (omega arith));
+        class-high = λ i h. high-as 1 8 (number-at 0 i (omega arith) h) (v .classes i (omega arith));
+        supply-high = λ j h. high-as 0 4095 (number-at 1 j (omega arith) h) (v .supplies j (omega arith));
+        cap-shape = shape;
+        cap-high = λ i j h k.
+            let l = cell-inside (seats b) (windows b) i j h k in
+            high-as 0 4095
+            (sym (flat-at (seats b) (windows b) (b .caps) shape i j h k) ∙ number-at 2 (i * windows b + j) (omega arith) (omega arith))
+            (v .caps (i * windows b + j) (omega arith));
+      }
+
+  pub taken-fits : (room : ℕ) → firstOf (writeLines (fileOf b o) room) ≡ none → Fit b
+  unfolding fileOf partsOf
+  taken-fits = file-fits

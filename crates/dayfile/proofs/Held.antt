@@ -1,0 +1,71 @@
+-- What is held in memory: a book and a sheet that are held and used again are the same.
+-- Assumes nothing.
+use mathlib.Core.Bool.{Bool, true, false}
+use mathlib.Core.List.{List, []}
+use mathlib.Core.Option.{Option, none, some}
+use mathlib.Core.Path.{_≡_, refl, sym, _∙_, ap, ap₂}
+use Prim.Native.Nat.{ℕ, _≤_}
+use native.Mathlib.Omega.{arith}
+use lib.ListN.{length}
+use Rattle.model.specs.Lowest.{isSome}
+use Rattle.model.specs.Book.{Book, Grid, Shaped, seats, windows}
+use Rattle.dayfile.specs.Bounds.{Fit, SheetFit}
+use Rattle.dayfile.specs.Memory.{sized, sizedGrid, Holds, held, heldIf, bookIn, sheetIn}
+use Rattle.dayfile.specs.declared.Book as Memory
+use Rattle.dayfile.proofs.Tables.{sized-length, sized-shaped, sized-again, sized-grid-again}
+
+-- ---- what is in memory has its shape
+
+module _ (m : Memory.Book) (caps : Grid) where
+  pub seats-in : seats (bookIn m caps) ≡ m .seats
+  unfolding bookIn
+  seats-in = sized-length (m .seats) (m .classes)
+
+  pub windows-in : windows (bookIn m caps) ≡ m .windows
+  unfolding bookIn
+  windows-in = sized-length (m .windows) (m .supplies)
+
+  shaped-in : (g : Grid) → Shaped (seats (bookIn m caps)) (windows (bookIn m caps)) (sizedGrid (m .seats) (m .windows) g)
+  shaped-in g =
+      let s = seats-in in
+      let w = windows-in in
+      let p = sized-shaped (m .seats) (m .windows) g in
+      record { rows = p .rows ∙ sym s; row = λ i h. p .row i (omega arith) ∙ sym w }
+
+  pub book-shaped : Shaped (seats (bookIn m caps)) (windows (bookIn m caps)) (bookIn m caps .caps)
+  unfolding bookIn
+  book-shaped = shaped-in caps
+
+  pub sheet-shaped : (there : Bool) (sheet : Grid) → SheetFit (bookIn m caps) (sheetIn m there sheet)
+  sheet-shaped false sheet = tt
+  sheet-shaped true sheet = shaped-in sheet
+
+-- ---- what is held, used again
+
+again : (n N k : ℕ) (xs ys : List ℕ) → k ≡ n → ys ≡ sized N xs → n ≤ N → length xs ≡ n → sized k ys ≡ xs
+again n N k xs ys p q h e = ap₂ sized p q ∙ sized-again n N xs h e
+
+module _ (b : Book) (m : Memory.Book) (fit : Fit b) (h : Holds b m) where
+  grid-again : (g : Grid) → Shaped (seats b) (windows b) g → sizedGrid (m .seats) (m .windows) (held g) ≡ g
+  grid-again g s =
+      ap₂ (λ (x y : ℕ). sizedGrid x y (held g)) (h .seats-are) (h .windows-are)
+      ∙ sized-grid-again (seats b) (windows b) 32 24 g (fit .seats-high) (fit .windows-high) s
+
+  abbrev made : List ℕ → List ℕ → Grid → Book
+  made x y z = record { classes = x; supplies = y; caps = z }
+
+  pub held-book : (caps : Grid) → caps ≡ held (b .caps) → bookIn m caps ≡ b
+  unfolding bookIn
+  held-book caps e =
+      ap₂ (λ (x y : List ℕ). made x y (sizedGrid (m .seats) (m .windows) caps))
+      (again (seats b) 32 (m .seats) (b .classes) (m .classes) (h .seats-are) (h .classes-are) (fit .seats-high) refl)
+      (again (windows b) 24 (m .windows) (b .supplies) (m .supplies) (h .windows-are) (h .supplies-are) (fit .windows-high) refl)
+      ∙ ap (made (b .classes) (b .supplies))
+      (ap (sizedGrid (m .seats) (m .windows)) e ∙ grid-again (b .caps) (fit .cap-shape))
+
+  pub held-sheet : (o : Option Grid) → SheetFit b o → (there : Bool) (sheet : Grid)
+      → there ≡ isSome o → sheet ≡ heldIf o → sheetIn m there sheet ≡ o
+  held-sheet none s there sheet t g = ap (λ (x : Bool). sheetIn m x sheet) t
+  held-sheet (some o) s there sheet t g =
+      ap (λ (x : Bool). sheetIn m x sheet) t
+      ∙ ap some (ap (sizedGrid (m .seats) (m .windows)) g ∙ grid-again o s)

@@ -1,0 +1,86 @@
+-- Down the lines of a table: one line, a group of lines and what comes after it, and what the answer tells.
+-- Assumes nothing.
+use mathlib.Core.List.{List, [], _∷_, _++_}
+use mathlib.Core.Option.{Option, none, some}
+use mathlib.Core.Path.{_≡_, refl, sym, _∙_, ap, ap₂}
+use Prim.Native.Nat.{ℕ}
+use native.Mathlib.Omega.{arith}
+use Rattle.dayfile.specs.Table.{Line, Refusal, line, refuse, orRefuse, firstOf}
+use Rattle.dayfile.specs.Outcome.{NoneHolds, FirstHolds}
+
+-- this line holds
+pub stop : (n : ℕ) {l : Option ℕ} {p : ℕ} (next : Option Refusal) → l ≡ some p → some (refuse n p) ≡ orRefuse n l next
+stop n next e = ap (λ (o : Option ℕ). orRefuse n o next) (sym e)
+
+-- this line does not, so the next decides
+pub on : (n : ℕ) {l : Option ℕ} {next r : Option Refusal} → l ≡ none → r ≡ next → r ≡ orRefuse n l next
+on n {l} {next} e q = q ∙ ap (λ (o : Option ℕ). orRefuse n o next) (sym e)
+
+stop-line : (n : ℕ) (o : Option ℕ) (a b : Option Refusal) (q : Refusal)
+    → (a ≡ some q → b ≡ some q) → orRefuse n o a ≡ some q → orRefuse n o b ≡ some q
+stop-line n none a b q k e = k e
+stop-line n (some p) a b q k e = e
+
+on-line : (n : ℕ) (o : Option ℕ) (a b d : Option Refusal) → (a ≡ none → b ≡ d) → orRefuse n o a ≡ none → orRefuse n o b ≡ d
+on-line n none a b d k e = k e
+on-line n (some p) a b d k e = let z : _≡_ {A = ℕ} 0 1 = cc in absurd (omega arith)
+
+-- a group of lines, and the lines after it
+pub stop-in : (xs ys : List Line) (q : Refusal) → firstOf xs ≡ some q → firstOf (xs ++ ys) ≡ some q
+stop-in [] ys q e = let z : _≡_ {A = ℕ} 0 1 = cc in absurd (omega arith)
+stop-in (l ∷ xs) ys q e = stop-line (l .number) (l .place) (firstOf xs) (firstOf (xs ++ ys)) q (stop-in xs ys q) e
+
+pub on-after : (xs ys : List Line) → firstOf xs ≡ none → firstOf (xs ++ ys) ≡ firstOf ys
+on-after [] ys e = refl
+on-after (l ∷ xs) ys e =
+    on-line (l .number) (l .place) (firstOf xs) (firstOf (xs ++ ys)) (firstOf ys) (on-after xs ys) e
+
+-- ---- none holds
+
+line-none : (n : ℕ) (o : Option ℕ) (next : Option Refusal) → orRefuse n o next ≡ none → (o ≡ none) × (next ≡ none)
+line-none n none next e = (refl, e)
+line-none n (some p) next e = let z : _≡_ {A = ℕ} 0 1 = cc in absurd (omega arith)
+
+pub none-holds : (ls : List Line) → firstOf ls ≡ none → NoneHolds ls
+none-holds [] e = tt
+none-holds (l ∷ ls) e = let h = line-none (l .number) (l .place) (firstOf ls) e in (h .0, none-holds ls (h .1))
+
+pub none-first-of : (ls : List Line) → NoneHolds ls → firstOf ls ≡ none
+none-first-of [] h = refl
+none-first-of (l ∷ ls) h = sym (on (l .number) (h .0) (sym (none-first-of ls (h .1))))
+
+-- none holds in either of two groups
+pub none-parts : (xs ys : List Line) → firstOf (xs ++ ys) ≡ none → (firstOf xs ≡ none) × (firstOf ys ≡ none)
+none-parts [] ys e = (refl, e)
+none-parts (l ∷ xs) ys e =
+    let h = line-none (l .number) (l .place) (firstOf (xs ++ ys)) e in
+    let k = none-parts xs ys (h .1) in (sym (on (l .number) (h .0) (sym (k .0))), k .1)
+
+-- ---- the first that holds
+
+first-line : (l : Line) (ls : List Line) (q : Refusal) (o : Option ℕ) → l .place ≡ o → (firstOf ls ≡ some q → FirstHolds ls q)
+    → orRefuse (l .number) o (firstOf ls) ≡ some q → FirstHolds (l ∷ ls) q
+first-line l ls q (some p) h k e =
+    let n : l .number ≡ q .number = cc in
+    let a : p ≡ q .at = cc in
+    record {
+      before = [];
+      after = ls;
+      split = ap (λ (o : Option ℕ). line (l .number) o ∷ ls) h ∙ ap₂ (λ (x y : ℕ). line x (some y) ∷ ls) n a;
+      passed = tt;
+    }
+first-line l ls q none h k e =
+    let r = k e in
+    record {
+      before = l ∷ r .before;
+      after = r .after;
+      split = ap (λ (x : List Line). l ∷ x) (r .split);
+      passed = (h, r .passed);
+    }
+
+pub first-holds : (ls : List Line) (q : Refusal) → firstOf ls ≡ some q → FirstHolds ls q
+first-holds [] q e = let z : _≡_ {A = ℕ} 0 1 = cc in absurd (omega arith)
+first-holds (l ∷ ls) q e = first-line l ls q (l .place) refl (first-holds ls q) e
+
+pub holds-first : (ls : List Line) (q : Refusal) → FirstHolds ls q → firstOf ls ≡ some q
+holds-first ls q r = ap firstOf (r .split) ∙ on-after (r .before) _ (none-first-of (r .before) (r .passed))

@@ -1,0 +1,124 @@
+-- What holds of a file that no line of the table turns away.
+-- Assumes nothing.
+use mathlib.Core.Bool.{Bool, true, false, not, cond}
+use mathlib.Core.List.{List, _++_}
+use mathlib.Core.Option.{Option, none, some}
+use mathlib.Core.Path.{_≡_, refl, sym, _∙_}
+use Prim.Native.Nat.{ℕ, _+_, _*_, _/_, _%_, _≤_, _<_}
+use native.Mathlib.Omega.{arith}
+use lib.Dec.{eqb, ltb}
+use lib.ListN.{length}
+use borrow.Author.Tests.{eqb-true, ltb-false, not-false}
+use Rattle.model.specs.Lowest.{when, lowest}
+use Rattle.dayfile.specs.Layout.{field, count, contentsEnd, kind, start, size, ends, seatsIn, windowsIn, kindAt, startAt, sizeAt}
+use Rattle.dayfile.specs.Table.{Line, firstOf, within, offset, known, kindRight, sizeRight, gridRight, outside}
+use Rattle.dayfile.specs.Table.{line1, line2, line3, line4, line5, line6, line7, line8, line9, line10, line11, line12}
+use Rattle.dayfile.specs.Table.{contentsLines, lengthLines, valueLines, optionLines, readLines}
+use Rattle.dayfile.proofs.Tests.{both-true, within-low, within-high, when-none}
+use Rattle.dayfile.proofs.Search.{lowest-none, offset-none}
+use Rattle.dayfile.proofs.Lines.{on-after, none-holds, none-parts}
+
+-- the kinds of the entries are right
+pub record InOrder (f : List ℕ) : Type 0 where
+  pub many : 3 ≤ count f
+  pub right : (e : ℕ) → e < count f → kindRight f e ≡ true
+
+-- each of n fields from an offset on is low to high
+abbrev pub FieldsWithin : List ℕ → ℕ → ℕ → ℕ → ℕ → Type 0
+FieldsWithin f at n low high = (i : ℕ) → i < n → within low high (field f (at + 2 * i)) ≡ true
+
+pub record Sound (f : List ℕ) : Type 0 where
+  pub order : InOrder f
+  pub count-high : count f ≤ known
+  pub room : contentsEnd (count f) ≤ length f
+  pub starts : (e : ℕ) → e < count f → start f e ≡ ends f e
+  pub last : ends f (count f) ≡ length f
+  pub seats-low : 2 ≤ size f 0
+  pub seats-high : size f 0 ≤ 64
+  pub seats-even : size f 0 % 2 ≡ 0
+  pub windows-low : 2 ≤ size f 1
+  pub windows-high : size f 1 ≤ 48
+  pub windows-even : size f 1 % 2 ≡ 0
+  pub grids : (e : ℕ) → e < count f → within 3 4 (kind f e) ≡ true → size f e ≡ 2 * (seatsIn f * windowsIn f)
+  pub classes : FieldsWithin f (start f 0) (seatsIn f) 1 8
+  pub supplies : FieldsWithin f (start f 1) (windowsIn f) 0 4095
+  pub caps : FieldsWithin f (start f 2) (seatsIn f * windowsIn f) 0 4095
+
+-- ---- line by line
+
+-- a test that must not fail
+pub kept : (t : Bool) (p : ℕ) → when (not t) p ≡ none → t ≡ true
+kept t p e = not-false t (when-none (not t) p e)
+
+-- a test that must hold at each of n places
+pub all-right : (at : ℕ → ℕ) (right : ℕ → Bool) (n : ℕ) → offset at (lowest n (λ i. not (right i))) ≡ none
+    → (i : ℕ) → i < n → right i ≡ true
+all-right at right n e i h =
+    let wrong : ℕ → Bool = λ k. not (right k) in
+    not-false (right i) (lowest-none wrong n (offset-none at (lowest n wrong) e) i h)
+
+pub none-outside : (f : List ℕ) (at n low high : ℕ) → outside f at n low high ≡ none → FieldsWithin f at n low high
+unfolding outside
+none-outside f at n low high e = all-right (λ i. at + 2 * i) (λ i. within low high (field f (at + 2 * i))) n e
+
+cond-when : (t x y : Bool) → cond t x y ≡ true → t ≡ true → x ≡ true
+cond-when true x y e h = e
+cond-when false x y e h = let z : _≡_ {A = ℕ} 0 1 = cc in absurd (omega arith)
+
+pub record Even (low high n : ℕ) : Type 0 where
+  pub least : low ≤ n
+  pub most : n ≤ high
+  pub even : n % 2 ≡ 0
+
+pub even-size : (low high n p : ℕ) → when (not (sizeRight low high n)) p ≡ none → Even low high n
+unfolding sizeRight
+even-size low high n p e =
+    let b = both-true (within low high n) (eqb (n % 2) 0) (kept (sizeRight low high n) p e) in
+    record {
+      least = within-low low high n (b .0);
+      most = within-high low high n (b .0);
+      even = eqb-true (n % 2) 0 (b .1);
+    }
+
+grid-size : (f : List ℕ) (e : ℕ) → gridRight f e ≡ true → within 3 4 (kind f e) ≡ true → size f e ≡ 2 * (seatsIn f * windowsIn f)
+unfolding gridRight
+grid-size f e g k =
+    let cells : ℕ = 2 * (seatsIn f * windowsIn f) in
+    eqb-true (size f e) cells (cond-when (within 3 4 (kind f e)) (eqb (size f e) cells) true g k)
+
+module _ (f : List ℕ) (free : firstOf (readLines f) ≡ none) where
+  parts : (firstOf (contentsLines f) ≡ none) × (firstOf (lengthLines f) ≡ none) × (firstOf (valueLines f) ≡ none)
+      × (firstOf (optionLines f) ≡ none)
+  unfolding readLines
+  parts =
+      let a = none-parts (contentsLines f) (lengthLines f ++ (valueLines f ++ optionLines f)) free in
+      let b = none-parts (lengthLines f) (valueLines f ++ optionLines f) (a .1) in
+      let c = none-parts (valueLines f) (optionLines f) (b .1) in (a .0, b .0, c .0, c .1)
+
+  pub sound : Sound f
+  unfolding contentsLines lengthLines valueLines line1 line2 line3 line4 line5 line6 line7 line8 line9 line10 line11 line12
+  sound =
+      let n = none-holds (contentsLines f) (parts .0) in
+      let l = none-holds (lengthLines f) (parts .1) in
+      let v = none-holds (valueLines f) (parts .2) in
+      let two = kept (within 3 known (count f)) 0 (n .1 .0) in
+      let seven = even-size 2 64 (size f 0) (sizeAt 0) (l .0) in
+      let eight = even-size 2 48 (size f 1) (sizeAt 1) (l .1 .0) in
+      let start-right : ℕ → Bool = λ e. eqb (start f e) (ends f e) in
+      record {
+        order = record { many = within-low 3 known (count f) two; right = all-right kindAt (kindRight f) (count f) (n .1 .1 .1 .0) };
+        count-high = within-high 3 known (count f) two;
+        room = ltb-false (length f) (contentsEnd (count f)) (when-none _ (length f) (n .1 .1 .0));
+        starts = λ e h. eqb-true (start f e) (ends f e) (all-right startAt start-right (count f) (n .1 .1 .1 .1 .0) e h);
+        last = eqb-true (ends f (count f)) (length f) (kept _ (length f) (n .1 .1 .1 .1 .1 .0));
+        seats-low = seven .least;
+        seats-high = seven .most;
+        seats-even = seven .even;
+        windows-low = eight .least;
+        windows-high = eight .most;
+        windows-even = eight .even;
+        grids = λ e h. grid-size f e (all-right sizeAt (gridRight f) (count f) (l .1 .1 .0) e h);
+        classes = none-outside f (start f 0) (seatsIn f) 1 8 (v .0);
+        supplies = none-outside f (start f 1) (windowsIn f) 0 4095 (v .1 .0);
+        caps = none-outside f (start f 2) (seatsIn f * windowsIn f) 0 4095 (v .1 .1 .0);
+      }

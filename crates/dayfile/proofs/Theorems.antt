@@ -1,0 +1,119 @@
+-- The theorems of the day file, demand 2 of paper 01 among them. Each says in words what is proved.
+-- Assumes nothing.
+use mathlib.Core.Bool.{Bool}
+use mathlib.Core.List.{List}
+use mathlib.Core.Logic.{_↔_}
+use mathlib.Core.Option.{Option, none, some}
+use mathlib.Core.Path.{_≡_, refl, sym, _∙_, ap, ap₂, subst}
+use Prim.Native.Nat.{ℕ, _≤_}
+use native.Mathlib.Omega.{arith}
+use lib.ListN.{length}
+use Rattle.model.specs.Lowest.{isSome}
+use Rattle.model.specs.Book.{Book, Grid, Shaped, SheetOf, seats, windows}
+use Rattle.dayfile.specs.Bounds.{Fit, SheetFit, TwoByte}
+use Rattle.dayfile.specs.Layout.{Bytes, bookOf, sheetOf}
+use Rattle.dayfile.specs.File.{fileOf}
+use Rattle.dayfile.specs.Table.{Refusal, firstOf, readLines, writeLines, plannedLength}
+use Rattle.dayfile.specs.Outcome.{Outcome, turnedAway, answer, unless, readFile, NoneHolds, FirstHolds}
+use Rattle.dayfile.specs.Memory.{Holds, held, heldIf, bookIn, sheetIn, fileIn, refused, reading}
+use Rattle.dayfile.specs.declared.Book as Memory
+use Rattle.dayfile.specs.declared.Check as Check
+use Rattle.dayfile.proofs.Lines.{none-holds, none-first-of, first-holds, holds-first}
+use Rattle.dayfile.proofs.Sound.{sound}
+use Rattle.dayfile.proofs.WrittenReads.{written-free, written-book, written-sheet}
+use Rattle.dayfile.proofs.ReadWrites.{written-again}
+use Rattle.dayfile.proofs.Accepted.{fits, sheet-fits, sheet-two-byte, taken-fits}
+use Rattle.dayfile.proofs.Lengths.{file-short, file-bytes}
+use Rattle.dayfile.proofs.Lengths.{longBook, longSheet, long-fits, long-sheet-fits, long-two-byte, long-length}
+use Rattle.dayfile.proofs.Held.{held-book, held-sheet, book-shaped, sheet-shaped}
+
+-- what an outcome tells of the lines
+module _ {A : Type 0} (x : A) where
+  away : (o : Option Refusal) (q : Refusal) → unless o x ≡ turnedAway q → o ≡ some q
+  away (some r) q e = cc
+  away none q e = let z : _≡_ {A = ℕ} 0 1 = cc in absurd (omega arith)
+
+  given : (o : Option Refusal) (y : A) → unless o x ≡ answer y → (o ≡ none) × (x ≡ y)
+  given none y e = (refl, cc)
+  given (some r) y e = let z : _≡_ {A = ℕ} 0 1 = cc in absurd (omega arith)
+
+-- a file is refused exactly when a line of the table holds, with the number and the offset of the first such line
+pub refused-exactly : (f : List ℕ) (q : Refusal) → readFile f ≡ turnedAway q ↔ FirstHolds (readLines f) q
+unfolding readFile
+refused-exactly f q = (
+  (λ e. first-holds (readLines f) q (away (bookOf f, sheetOf f) (firstOf (readLines f)) q e)),
+  (λ h. ap (λ (o : Option Refusal). unless o (bookOf f, sheetOf f)) (holds-first (readLines f) q h)),
+)
+
+-- a file is accepted exactly when no line holds, and then it says what its bodies say
+pub accepted-exactly : (f : List ℕ) → readFile f ≡ answer (bookOf f, sheetOf f) ↔ NoneHolds (readLines f)
+unfolding readFile
+accepted-exactly f = (
+  (λ e. none-holds (readLines f) (given (bookOf f, sheetOf f) (firstOf (readLines f)) (bookOf f, sheetOf f) e .0)),
+  (λ h. ap (λ (o : Option Refusal). unless o (bookOf f, sheetOf f)) (none-first-of (readLines f) h)),
+)
+
+-- the book of an accepted file has 1 to 32 seats, 1 to 24 windows, classes 1 to 8, supplies and caps up to 4,095 and a cap for each seat
+-- and window; its sheet, if there is one, has a cell for each, and each is a two-byte number
+pub accepted-fits : (f : List ℕ) (b : Book) (s : Option Grid) → readFile f ≡ answer (b, s)
+    → Fit b × SheetFit b s × (Bytes f → TwoByte b s)
+unfolding readFile
+accepted-fits f b s e =
+    let g = given (bookOf f, sheetOf f) (firstOf (readLines f)) (b, s) e in
+    subst (λ (p : Book × Option Grid). Fit (p .0) × SheetFit (p .0) (p .1) × (Bytes f → TwoByte (p .0) (p .1))) (g .1)
+    (fits f (sound f (g .0)), sheet-fits f, sheet-two-byte f)
+
+-- a book that fits, with or without a sheet, written and read, is the same, and so is the sheet
+pub written-reads-back : (b : Book) (s : Option Grid) → Fit b → SheetFit b s → readFile (fileOf b s) ≡ answer (b, s)
+unfolding readFile
+written-reads-back b s fit sheet =
+    ap (λ (o : Option Refusal). unless o (bookOf (fileOf b s), sheetOf (fileOf b s))) (written-free b s fit sheet)
+    ∙ ap₂ (λ (x : Book) (y : Option Grid). answer (x, y)) (written-book b s fit sheet) (written-sheet b s fit sheet)
+
+-- what is written is made of bytes
+pub written-bytes : (b : Book) (s : Option Grid) → Fit b → SheetFit b s → TwoByte b s → Bytes (fileOf b s)
+written-bytes = file-bytes
+
+-- an accepted file, read and written again, has the same bytes
+pub read-writes-back : (f : List ℕ) (b : Book) (s : Option Grid) → Bytes f → readFile f ≡ answer (b, s) → fileOf b s ≡ f
+unfolding readFile
+read-writes-back f b s by e =
+    let g = given (bookOf f, sheetOf f) (firstOf (readLines f)) (b, s) e in
+    ap (λ (p : Book × Option Grid). fileOf (p .0) (p .1)) (sym (g .1)) ∙ written-again f (sound f (g .0)) by
+
+-- the longest file has 3,210 bytes: no accepted file has more, and one has as many
+pub longest : (f : List ℕ) (b : Book) (s : Option Grid) → Bytes f → readFile f ≡ answer (b, s) → length f ≤ 3210
+longest f b s by e =
+    let back = ap length (read-writes-back f b s by e) in
+    let fit = accepted-fits f b s e in let short = file-short b s (fit .0) (fit .1) in omega arith
+
+pub longest-there : (f : List ℕ) × Bytes f × (readFile f ≡ answer (longBook, some longSheet)) × (length f ≡ 3210)
+longest-there = (
+  fileOf longBook (some longSheet),
+  file-bytes longBook (some longSheet) long-fits long-sheet-fits long-two-byte,
+  written-reads-back longBook (some longSheet) long-fits long-sheet-fits,
+  long-length,
+)
+
+-- in memory: a book that the writer's lines take, written and read, is the same in all used entries, and so is the sheet
+pub memory-reads-back : (m : Memory.Book) (caps : Grid) (there : Bool) (sheet : Grid) (room : ℕ)
+    → firstOf (writeLines (fileIn m caps there sheet) room) ≡ none
+    → readFile (fileIn m caps there sheet) ≡ answer (bookIn m caps, sheetIn m there sheet)
+unfolding fileIn
+memory-reads-back m caps there sheet room e =
+    let b : Book = bookIn m caps in
+    let s : Option Grid = sheetIn m there sheet in
+    written-reads-back b s (taken-fits b s (book-shaped m caps) room e) (sheet-shaped m caps there sheet)
+
+-- what the reader's five answers say together is what the file says
+pub reader-says : (f : List ℕ) (r : Check.Check) (m : Memory.Book) (caps : Grid) (there : Bool) (sheet : Grid)
+    → refused r ≡ firstOf (readLines f) → Holds (bookOf f) m → caps ≡ held (bookOf f .caps)
+    → there ≡ isSome (sheetOf f) → sheet ≡ heldIf (sheetOf f) → reading r m caps there sheet ≡ readFile f
+unfolding readFile
+reader-says f (Check.the-variants.Refused n p) m caps there sheet e h c t g =
+    ap (λ (o : Option Refusal). unless o (bookOf f, sheetOf f)) e
+reader-says f Check.the-variants.Sound m caps there sheet e h c t g =
+    let fit = fits f (sound f (sym e)) in
+    ap₂ (λ (x : Book) (y : Option Grid). answer (x, y)) (held-book (bookOf f) m fit h caps c)
+    (held-sheet (bookOf f) m fit h (sheetOf f) (sheet-fits f) there sheet t g)
+    ∙ ap (λ (o : Option Refusal). unless o (bookOf f, sheetOf f)) e

@@ -1,0 +1,296 @@
+-- A book and a sheet that fit, written and read, are the same: no line of the table turns the file away.
+-- Assumes nothing.
+use mathlib.Core.Bool.{Bool, true, false, not, cond, _&&_}
+use mathlib.Core.List.{List, [], _∷_, _++_}
+use mathlib.Core.Option.{Option, none, some}
+use mathlib.Core.Path.{_≡_, refl, sym, _∙_, ap, ap₂}
+use Prim.Native.Nat.{ℕ, zero, suc, _+_, _-_, _*_, _/_, _%_, _≤_, _<_, zero-le}
+use native.Mathlib.Omega.{arith}
+use lib.Dec.{eqb}
+use lib.ListN.{length, getD}
+use borrow.Author.Tests.{eq-eqb, le-ltb}
+use Rattle.model.specs.Lowest.{when, andThen, lowest}
+use Rattle.model.specs.Book.{Book, Grid, Shaped, seats, windows}
+use Rattle.dayfile.specs.Bounds.{Fit, SheetFit}
+use Rattle.dayfile.specs.Layout.{field, count, contentsEnd, kind, start, size, ends, seatsIn, windowsIn, kindAt, startAt, sizeAt}
+use Rattle.dayfile.specs.Layout.{entryOf, fieldsAt, gridAt, bookOf, sheetOf}
+use Rattle.dayfile.specs.File.{Part, part, partsOf, optPart, flatIf, optParts, flat, assemble, fileOf}
+use Rattle.dayfile.specs.Table.{firstOf, within, offset, known, kindRight, sizeRight, gridRight, outside}
+use Rattle.dayfile.specs.Table.{line1, line2, line3, line4, line5, line6, line7, line8, line9, line10, line11, line12}
+use Rattle.dayfile.specs.Table.{contentsLines, lengthLines, valueLines, optionLines, readLines}
+use Rattle.dayfile.proofs.Tests.{is-within, cond-no}
+use Rattle.dayfile.proofs.Search.{none-all}
+use Rattle.dayfile.proofs.Fields.{fields-at}
+use Rattle.dayfile.proofs.Grids.{flat-length, flat-cell, grid-there}
+use Rattle.dayfile.proofs.Container.{nth, before-all, file-size, count-is, kind-is, start-is, size-is, ends-is, body-is}
+use Rattle.dayfile.proofs.Sound.{InOrder}
+use Rattle.dayfile.proofs.Rising.{split-first}
+use Rattle.dayfile.proofs.Optional.{Above, above-opt, above-next, Each, each-nth, each-opt, IfThere, few-opt}
+use Rattle.dayfile.proofs.Optional.{Tail, BodyAt, Looked, look}
+
+-- each number of a list is low to high
+abbrev pub AllWithin : ℕ → ℕ → List ℕ → Type 0
+AllWithin low high xs = (i : ℕ) → i < length xs → within low high (getD xs i 0) ≡ true
+
+-- fields that are all low to high
+pub outside-none : (f : List ℕ) (at n low high : ℕ) (xs : List ℕ)
+    → n ≡ length xs → fieldsAt f at (length xs) ≡ xs → AllWithin low high xs → outside f at n low high ≡ none
+unfolding outside
+outside-none f at n low high xs e q h =
+    let here : (i : ℕ) → i < n → field f (at + 2 * i) ≡ getD xs i 0 =
+    λ i p. sym (fields-at f at (length xs) i (omega arith)) ∙ ap (λ (ys : List ℕ). getD ys i 0) q in
+    ap (offset (λ i. at + 2 * i))
+    (none-all (λ i. not (within low high (field f (at + 2 * i)))) n
+    (λ i p. ap (λ (x : ℕ). not (within low high x)) (here i p) ∙ ap not (h i (omega arith))))
+
+-- kinds 3 and 4 have grids of n numbers
+abbrev GridPart : ℕ → Part → Type 0
+GridPart n p = within 3 4 (p .sort) ≡ true → length (p .body) ≡ n
+
+sheet-grid : (b : Book) (o : Option Grid) → SheetFit b o
+    → IfThere (λ xs. GridPart (seats b * windows b) (part 4 xs)) (flatIf o)
+sheet-grid b none s = tt
+sheet-grid b (some g) s = λ h. flat-length (seats b) (windows b) g s
+
+module _ (b : Book) (o : Option Grid) (fit : Fit b) (sheet : SheetFit b o) where
+  abbrev ps : List Part
+  ps = part 1 (b .classes) ∷ part 2 (b .supplies) ∷ part 3 (flat (b .caps)) ∷ optParts o
+
+  abbrev f : List ℕ
+  f = assemble (length ps) ps
+
+  abbrev S : ℕ
+  S = seats b
+
+  abbrev W : ℕ
+  W = windows b
+
+  -- ---- the parts that may be missing
+
+  rising : Above 4 (optParts o)
+  unfolding optParts
+  rising = above-opt 4 (flatIf o) [] (omega arith) tt
+
+  grids : Each (GridPart (S * W)) (optParts o)
+  unfolding optParts
+  grids = each-opt (GridPart (S * W)) 4 (flatIf o) [] (sheet-grid b o sheet) tt
+
+  few : length ps ≤ known
+  unfolding optParts
+  few = let e = few-opt 4 (flatIf o) [] in omega arith
+
+  -- ---- the file
+
+  count-f : count f ≡ length ps
+  count-f = count-is (length ps) ps refl
+
+  kind-f : (e : ℕ) → e < length ps → kind f e ≡ nth ps e .sort
+  kind-f = kind-is (length ps) ps refl
+
+  start-f : (e : ℕ) → e < length ps → start f e ≡ ends f e
+  start-f e h = start-is (length ps) ps refl e h ∙ sym (ends-is (length ps) ps refl e (omega arith))
+
+  size-f : (e : ℕ) → e < length ps → size f e ≡ 2 * length (nth ps e .body)
+  size-f = size-is (length ps) ps refl
+
+  end-f : ends f (length ps) ≡ length f
+  end-f =
+      ends-is (length ps) ps refl (length ps) (omega arith)
+      ∙ (let a = file-size (length ps) ps refl in let c = before-all ps in omega arith)
+
+  body-f : (e : ℕ) → e < length ps → fieldsAt f (start f e) (length (nth ps e .body)) ≡ nth ps e .body
+  body-f = body-is (length ps) ps refl
+
+  room : contentsEnd (length ps) ≤ length f
+  room = let a = file-size (length ps) ps refl in omega arith
+
+  seats-f : seatsIn f ≡ S
+  seats-f = let e = size-f 0 (omega arith) in omega arith
+
+  windows-f : windowsIn f ≡ W
+  windows-f = let e = size-f 1 (omega arith) in omega arith
+
+  cells : seatsIn f * windowsIn f ≡ S * W
+  cells = ap₂ (λ (x y : ℕ). x * y) seats-f windows-f
+
+  caps-f : length (flat (b .caps)) ≡ S * W
+  caps-f = flat-length S W (b .caps) (fit .cap-shape)
+
+  -- ---- line by line: contents
+
+  at1 : line1 f ≡ none
+  unfolding line1
+  at1 = let r = room in ap (λ (t : Bool). when t (length f)) (le-ltb (length f) 2 (omega arith))
+
+  at2 : line2 f ≡ none
+  unfolding line2
+  at2 =
+      ap (λ (t : Bool). when (not t) 0)
+      (ap (within 3 known) count-f ∙ is-within 3 known (length ps) (omega arith) few)
+
+  at3 : line3 f ≡ none
+  unfolding line3
+  at3 =
+      let r = room in
+      let e = count-f in ap (λ (t : Bool). when t (length f)) (le-ltb (length f) (contentsEnd (count f)) (omega arith))
+
+  kind-after : (e : ℕ) → suc (suc (suc e)) < length ps → kindRight f (suc (suc (suc e))) ≡ true
+  unfolding kindRight
+  kind-after e h =
+      let k : ℕ = suc (suc (suc e)) in
+      let n = above-next (part 3 (flat (b .caps))) (optParts o) rising e (omega arith) in
+      let one = kind-f (suc (suc e)) (omega arith) in
+      let two = kind-f k h in
+      let same = ap (kind f) {x = k - 1} {y = suc (suc e)} (omega arith) in
+      sym (cond-no (eqb (kind f k) (k + 1)) (within (kind f (k - 1) + 1) known (kind f k)) (le-ltb k 3 (omega arith)))
+      ∙ is-within (kind f (k - 1) + 1) known (kind f k) (omega arith) (omega arith)
+
+  kind-right-f : (e : ℕ) → e < length ps → kindRight f e ≡ true
+  unfolding kindRight
+  kind-right-f zero h = eq-eqb (kind f 0) 1 (kind-f 0 h)
+  kind-right-f (suc zero) h = eq-eqb (kind f 1) 2 (kind-f 1 h)
+  kind-right-f (suc (suc zero)) h = eq-eqb (kind f 2) 3 (kind-f 2 h)
+  kind-right-f (suc (suc (suc e))) h = kind-after e h
+
+  at4 : line4 f ≡ none
+  unfolding line4
+  at4 =
+      let c = count-f in
+      ap (offset kindAt) (none-all (λ e. not (kindRight f e)) (count f) (λ e h. ap not (kind-right-f e (omega arith))))
+
+  at5 : line5 f ≡ none
+  unfolding line5
+  at5 =
+      let c = count-f in
+      ap (offset startAt)
+      (none-all (λ e. not (eqb (start f e) (ends f e))) (count f)
+      (λ e h. ap not (eq-eqb (start f e) (ends f e) (start-f e (omega arith)))))
+
+  at6 : line6 f ≡ none
+  unfolding line6
+  at6 =
+      ap (λ (t : Bool). when (not t) (length f)) (eq-eqb (ends f (count f)) (length f) (ap (ends f) count-f ∙ end-f))
+
+  -- ---- body lengths
+
+  even-right : (low high n : ℕ) → low ≤ 2 * n → 2 * n ≤ high → sizeRight low high (2 * n) ≡ true
+  unfolding sizeRight
+  even-right low high n h k =
+      ap₂ (λ (x y : Bool). x && y) (is-within low high (2 * n) h k) (eq-eqb (2 * n % 2) 0 (omega arith))
+
+  at7 : line7 f ≡ none
+  unfolding line7
+  at7 =
+      let l = fit .seats-low in
+      let h = fit .seats-high in
+      ap (λ (t : Bool). when (not t) (sizeAt 0))
+      (ap (sizeRight 2 64) (size-f 0 (omega arith)) ∙ even-right 2 64 S (omega arith) (omega arith))
+
+  at8 : line8 f ≡ none
+  unfolding line8
+  at8 =
+      let l = fit .windows-low in
+      let h = fit .windows-high in
+      ap (λ (t : Bool). when (not t) (sizeAt 1))
+      (ap (sizeRight 2 48) (size-f 1 (omega arith)) ∙ even-right 2 48 W (omega arith) (omega arith))
+
+  grid-if : (e : ℕ) → e < length ps → (t : Bool) → within 3 4 (nth ps e .sort) ≡ t
+      → (within 3 4 (nth ps e .sort) ≡ true → length (nth ps e .body) ≡ S * W)
+      → cond t (eqb (size f e) (2 * (seatsIn f * windowsIn f))) true ≡ true
+  grid-if e h false q g = refl
+  grid-if e h true q g =
+      eq-eqb (size f e) (2 * (seatsIn f * windowsIn f)) (let a = size-f e h in let l = g q in let c = cells in omega arith)
+
+  grid-part : (e : ℕ) → e < length ps → GridPart (S * W) (nth ps e)
+  grid-part zero h = λ q. let z : _≡_ {A = ℕ} 0 1 = cc in absurd (omega arith)
+  grid-part (suc zero) h = λ q. let z : _≡_ {A = ℕ} 0 1 = cc in absurd (omega arith)
+  grid-part (suc (suc zero)) h = λ q. caps-f
+  grid-part (suc (suc (suc e))) h = each-nth (GridPart (S * W)) (optParts o) grids e (omega arith)
+
+  grid-right-f : (e : ℕ) → e < length ps → gridRight f e ≡ true
+  unfolding gridRight
+  grid-right-f e h =
+      ap (λ (k : ℕ). cond (within 3 4 k) (eqb (size f e) (2 * (seatsIn f * windowsIn f))) true) (kind-f e h)
+      ∙ grid-if e h (within 3 4 (nth ps e .sort)) refl (grid-part e h)
+
+  at9 : line9 f ≡ none
+  unfolding line9
+  at9 =
+      let c = count-f in
+      ap (offset sizeAt) (none-all (λ e. not (gridRight f e)) (count f) (λ e h. ap not (grid-right-f e (omega arith))))
+
+  -- ---- values
+
+  at10 : line10 f ≡ none
+  unfolding line10
+  at10 =
+      outside-none f (start f 0) (seatsIn f) 1 8 (b .classes) seats-f (body-f 0 (omega arith))
+      (λ i h. is-within 1 8 (getD (b .classes) i 0) (fit .class-low i h) (fit .class-high i h))
+
+  at11 : line11 f ≡ none
+  unfolding line11
+  at11 =
+      outside-none f (start f 1) (windowsIn f) 0 4095 (b .supplies) windows-f (body-f 1 (omega arith))
+      (λ i h. is-within 0 4095 (getD (b .supplies) i 0) zero-le (fit .supply-high i h))
+
+  at12 : line12 f ≡ none
+  unfolding line12
+  at12 =
+      outside-none f (start f 2) (seatsIn f * windowsIn f) 0 4095 (flat (b .caps)) (cells ∙ sym caps-f) (body-f 2 (omega arith))
+      (flat-cell S W (b .caps) (fit .cap-shape) (λ x. within 0 4095 x ≡ true)
+      (λ i j h k. is-within 0 4095 _ zero-le (fit .cap-high i j h k)))
+
+  no-line : firstOf (readLines f) ≡ none
+  unfolding readLines contentsLines lengthLines valueLines optionLines
+  no-line = rw (at1, at2, at3, at4, at5, at6, at7, at8, at9, at10, at11, at12)
+
+  -- ---- what the file holds
+
+  abbrev made : List ℕ → List ℕ → Grid → Book
+  made x y z = record { classes = x; supplies = y; caps = z }
+
+  grid-f : (e : ℕ) (g : Grid) → e < length ps → nth ps e .body ≡ flat g → Shaped S W g
+      → gridAt f (start f e) (seatsIn f) (windowsIn f) ≡ g
+  grid-f e g h q s =
+      ap₂ (gridAt f (start f e)) seats-f windows-f
+      ∙ grid-there f (start f e) S W g s
+      (ap (λ (xs : List ℕ). fieldsAt f (start f e) (length xs)) (sym q) ∙ body-f e h ∙ q)
+
+  book-is : bookOf f ≡ b
+  unfolding bookOf
+  book-is =
+      ap₂ (λ (x y : List ℕ). made x y (gridAt f (start f 2) (seatsIn f) (windowsIn f)))
+      (ap (fieldsAt f (start f 0)) seats-f ∙ body-f 0 (omega arith))
+      (ap (fieldsAt f (start f 1)) windows-f ∙ body-f 1 (omega arith))
+      ∙ ap (made (b .classes) (b .supplies)) (grid-f 2 (b .caps) (omega arith) refl (fit .cap-shape))
+
+  order-f : InOrder f
+  order-f = let c = count-f in record { many = omega arith; right = λ e h. kind-right-f e (omega arith) }
+
+  sheet-look : Looked (length ps) ps refl order-f 4 (flatIf o) []
+  unfolding optParts
+  sheet-look =
+      look (length ps) ps refl order-f 3 4 (flatIf o) [] (split-first f order-f)
+      (record { long = omega arith; same = λ i. ap (nth ps) {x = 3 + i} {y = suc (suc (suc i))} (omega arith) }) tt
+
+-- a grid of a kind that may be missing
+grid-at : (b : Book) (o : Option Grid) (fit : Fit b) (sheet : SheetFit b o) (r : Option ℕ) (g : Option Grid) → SheetFit b g
+    → BodyAt (length (ps b o fit sheet)) (ps b o fit sheet) refl (order-f b o fit sheet) r (flatIf g)
+    → andThen r (λ e. some (gridAt (f b o fit sheet) (start (f b o fit sheet) e) (seatsIn (f b o fit sheet)) (windowsIn (f b o fit sheet)))) ≡ g
+grid-at b o fit sheet none none p h = refl
+grid-at b o fit sheet none (some g) p h = absurd h
+grid-at b o fit sheet (some e) none p h = absurd h
+grid-at b o fit sheet (some e) (some g) p h = ap some (grid-f b o fit sheet e g (h .0) (h .1) p)
+
+module _ (b : Book) (o : Option Grid) (fit : Fit b) (sheet : SheetFit b o) where
+  pub written-free : firstOf (readLines (fileOf b o)) ≡ none
+  unfolding fileOf partsOf
+  written-free = no-line b o fit sheet
+
+  pub written-book : bookOf (fileOf b o) ≡ b
+  unfolding fileOf partsOf
+  written-book = book-is b o fit sheet
+
+  pub written-sheet : sheetOf (fileOf b o) ≡ o
+  unfolding fileOf partsOf sheetOf
+  written-sheet = grid-at b o fit sheet (entryOf (f b o fit sheet) 4) o sheet (sheet-look b o fit sheet .body)

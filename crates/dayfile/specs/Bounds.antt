@@ -1,0 +1,27 @@
+-- Paper 01, "The book": what holds of every book and sheet that a day file can hold.
+use mathlib.Core.Option.{Option, none, some}
+use Prim.Native.Nat.{ℕ, _≤_, _<_}
+use lib.ListN.{getD}
+use Rattle.model.specs.Book.{Book, Grid, Shaped, SheetOf, cell, seats, windows}
+
+-- 1 to 32 seats, 1 to 24 windows; classes 1 to 8; supplies and caps 0 to 4,095; a cap for each seat and window
+pub record Fit (b : Book) : Type 0 where
+  pub seats-low : 1 ≤ seats b
+  pub seats-high : seats b ≤ 32
+  pub windows-low : 1 ≤ windows b
+  pub windows-high : windows b ≤ 24
+  pub class-low : (i : ℕ) → i < seats b → 1 ≤ getD (b .classes) i 0
+  pub class-high : (i : ℕ) → i < seats b → getD (b .classes) i 0 ≤ 8
+  pub supply-high : (j : ℕ) → j < windows b → getD (b .supplies) j 0 ≤ 4095
+  pub cap-shape : Shaped (seats b) (windows b) (b .caps)
+  pub cap-high : (i j : ℕ) → i < seats b → j < windows b → cell (b .caps) i j ≤ 4095
+
+-- a sheet has one cell per seat and window; it may be missing
+abbrev pub SheetFit : Book → Option Grid → Type 0
+SheetFit b none = Unit {0}
+SheetFit b (some s) = SheetOf b s
+
+-- and each of its cells is a two-byte number
+abbrev pub TwoByte : Book → Option Grid → Type 0
+TwoByte b none = Unit {0}
+TwoByte b (some s) = (i j : ℕ) → i < seats b → j < windows b → cell s i j < 65536

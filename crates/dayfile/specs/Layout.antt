@@ -1,0 +1,89 @@
+-- Paper 01, "The day file": its fields, its table of contents, and the book and the sheet that it holds. Entries count from 0.
+-- All of it is total: a byte past the file's end counts as 0.
+use mathlib.Core.Bool.{cond}
+use mathlib.Core.List.{List}
+use mathlib.Core.Option.{Option, some}
+use Prim.Native.Nat.{ℕ, _+_, _-_, _*_, _/_, _<_}
+use lib.Dec.{eqb}
+use lib.ListN.{getD}
+use Rattle.fairness.specs.Leximin.{table}
+use Rattle.model.specs.Lowest.{lowest, andThen}
+use Rattle.model.specs.Book.{Book, Grid}
+
+-- a list of bytes
+abbrev pub Bytes : List ℕ → Type 0
+Bytes f = (i : ℕ) → getD f i 0 < 256
+
+-- every field is two bytes, low byte first
+unfoldable pub field : List ℕ → ℕ → ℕ
+field f at = getD f at 0 + 256 * getD f (at + 1) 0
+
+-- ---- the table of contents: the number of entries, then per entry a kind, a start and a length in bytes
+
+-- the number of entries that the first field tells
+abbrev pub entriesIn : ℕ → ℕ
+entriesIn first = first
+
+abbrev pub count : List ℕ → ℕ
+count f = entriesIn (field f 0)
+
+-- where the contents end
+abbrev pub contentsEnd : ℕ → ℕ
+contentsEnd entries = 2 + 6 * entries
+
+-- where entry e has its kind, its start and its length
+abbrev pub kindAt : ℕ → ℕ
+kindAt e = 2 + 6 * e
+
+abbrev pub startAt : ℕ → ℕ
+startAt e = 4 + 6 * e
+
+abbrev pub sizeAt : ℕ → ℕ
+sizeAt e = 6 + 6 * e
+
+abbrev pub kind : List ℕ → ℕ → ℕ
+kind f e = field f (kindAt e)
+
+abbrev pub start : List ℕ → ℕ → ℕ
+start f e = field f (startAt e)
+
+abbrev pub size : List ℕ → ℕ → ℕ
+size f e = field f (sizeAt e)
+
+-- the entry of a kind, if there is one
+unfoldable pub entryOf : List ℕ → ℕ → Option ℕ
+entryOf f k = lowest (count f) (λ e. eqb (kind f e) k)
+
+-- where the part before the body of entry e ends: the contents, or the body before it
+unfoldable pub ends : List ℕ → ℕ → ℕ
+ends f e = cond (eqb e 0) (contentsEnd (count f)) (start f (e - 1) + size f (e - 1))
+
+-- a field for each seat in the first body, for each window in the second
+abbrev pub seatsIn : List ℕ → ℕ
+seatsIn f = size f 0 / 2
+
+abbrev pub windowsIn : List ℕ → ℕ
+windowsIn f = size f 1 / 2
+
+-- ---- what the bodies say
+
+-- n fields from an offset on
+unfoldable pub fieldsAt : List ℕ → ℕ → ℕ → List ℕ
+fieldsAt f at n = table n (λ i. field f (at + 2 * i))
+
+-- a grid from an offset on: seat by seat, within a seat window by window
+unfoldable pub gridAt : List ℕ → ℕ → ℕ → ℕ → Grid
+gridAt f at n m = table n (λ i. fieldsAt f (at + 2 * (i * m)) m)
+
+-- kind 1: each seat's class; kind 2: each window's supply; kind 3: caps
+unfoldable pub bookOf : List ℕ → Book
+bookOf f =
+    record {
+      classes = fieldsAt f (start f 0) (seatsIn f);
+      supplies = fieldsAt f (start f 1) (windowsIn f);
+      caps = gridAt f (start f 2) (seatsIn f) (windowsIn f);
+    }
+
+-- kind 4: the sheet, laid out as kind 3; it may be missing
+unfoldable pub sheetOf : List ℕ → Option Grid
+sheetOf f = andThen (entryOf f 4) (λ e. some (gridAt f (start f e) (seatsIn f) (windowsIn f)))

@@ -1,0 +1,201 @@
+-- Paper 01, "Where each file is turned away": each line of the table gives the lowest offset at which its condition holds, or nothing.
+-- The comments are the table's own words: the condition, and the offset given.
+use mathlib.Core.Bool.{Bool, true, not, cond, _&&_}
+use mathlib.Core.List.{List, [], _∷_, _++_}
+use mathlib.Core.Option.{Option, none, some}
+use Prim.Native.Nat.{ℕ, _+_, _-_, _*_, _%_}
+use lib.Dec.{leb, ltb, eqb}
+use lib.ListN.{length}
+use Rattle.fairness.specs.Sums.{sum}
+use Rattle.model.specs.Lowest.{lowest, when, andThen, isSome}
+use Rattle.model.specs.Book.{Book}
+use Rattle.dayfile.specs.Layout.{field, count, contentsEnd, kind, start, size, kindAt, startAt, sizeAt, entryOf, ends}
+use Rattle.dayfile.specs.Layout.{seatsIn, windowsIn, bookOf}
+use Rattle.dayfile.specs.File.{fileOf}
+
+-- low to high, both in
+abbrev pub within : ℕ → ℕ → ℕ → Bool
+within low high x = leb low x && leb x high
+
+-- the offset of what was found
+abbrev pub offset : (ℕ → ℕ) → Option ℕ → Option ℕ
+offset at found = andThen found (λ i. some (at i))
+
+-- the last kind that is known
+abbrev pub known : ℕ
+known = 4
+
+-- ---- contents
+
+-- 1: under 2 bytes | file length
+unfoldable pub line1 : List ℕ → Option ℕ
+line1 f = when (ltb (length f) 2) (length f)
+
+-- 2: entries not 3 or 4 | 0
+unfoldable pub line2 : List ℕ → Option ℕ
+line2 f = when (not (within 3 known (count f))) 0
+
+-- 3: file ends within the contents | file length
+unfoldable pub line3 : List ℕ → Option ℕ
+line3 f = when (ltb (length f) (contentsEnd (count f))) (length f)
+
+-- entries 0, 1, 2 are of kinds 1, 2, 3; the kinds after them rise, and none is unknown
+unfoldable pub kindRight : List ℕ → ℕ → Bool
+kindRight f e = cond (ltb e 3) (eqb (kind f e) (e + 1)) (within (kind f (e - 1) + 1) known (kind f e))
+
+-- 4: kinds not 1, 2, 3, (4) in order | that kind field
+unfoldable pub line4 : List ℕ → Option ℕ
+line4 f = offset kindAt (lowest (count f) (λ e. not (kindRight f e)))
+
+-- 5: start not where the part before ends | that start field
+unfoldable pub line5 : List ℕ → Option ℕ
+line5 f = offset startAt (lowest (count f) (λ e. not (eqb (start f e) (ends f e))))
+
+-- 6: last body does not end at the file's end | file length
+unfoldable pub line6 : List ℕ → Option ℕ
+line6 f = when (not (eqb (ends f (count f)) (length f))) (length f)
+
+-- ---- body lengths
+
+-- low to high, and even
+unfoldable pub sizeRight : ℕ → ℕ → ℕ → Bool
+sizeRight low high n = within low high n && eqb (n % 2) 0
+
+-- 7: seats: not 2 to 64, or odd | that length field
+unfoldable pub line7 : List ℕ → Option ℕ
+line7 f = when (not (sizeRight 2 64 (size f 0))) (sizeAt 0)
+
+-- 8: windows: not 2 to 48, or odd | that length field
+unfoldable pub line8 : List ℕ → Option ℕ
+line8 f = when (not (sizeRight 2 48 (size f 1))) (sizeAt 1)
+
+-- a body of kind 3 or 4 has two bytes for each seat and window
+unfoldable pub gridRight : List ℕ → ℕ → Bool
+gridRight f e = cond (within 3 4 (kind f e)) (eqb (size f e) (2 * (seatsIn f * windowsIn f))) true
+
+-- 9: caps or sheet: not 2 × seats × windows | that length field
+unfoldable pub line9 : List ℕ → Option ℕ
+line9 f = offset sizeAt (lowest (count f) (λ e. not (gridRight f e)))
+
+-- ---- values
+
+-- the first of n fields from an offset on that is not low to high
+unfoldable pub outside : List ℕ → ℕ → ℕ → ℕ → ℕ → Option ℕ
+outside f at n low high = offset (λ i. at + 2 * i) (lowest n (λ i. not (within low high (field f (at + 2 * i)))))
+
+-- 10: class not 1 to 8 | that class
+unfoldable pub line10 : List ℕ → Option ℕ
+line10 f = outside f (start f 0) (seatsIn f) 1 8
+
+-- 11: supply above 4,095 | that supply
+unfoldable pub line11 : List ℕ → Option ℕ
+line11 f = outside f (start f 1) (windowsIn f) 0 4095
+
+-- 12: cap above 4,095 | that cap
+unfoldable pub line12 : List ℕ → Option ℕ
+line12 f = outside f (start f 2) (seatsIn f * windowsIn f) 0 4095
+
+-- ---- marker only
+
+-- 13: no sheet | 0
+unfoldable pub line13 : List ℕ → Option ℕ
+line13 f = when (not (isSome (entryOf f 4))) 0
+
+-- the sheet's cells count in the file's order; the cap of a cell has the same number
+abbrev pub cellAt : List ℕ → ℕ → ℕ → ℕ
+cellAt f e i = start f e + 2 * i
+
+-- 14: cell above its cap | that cell
+unfoldable pub line14 : List ℕ → Option ℕ
+line14 f =
+    andThen (entryOf f 4)
+    (λ e. offset (cellAt f e)
+    (lowest (seatsIn f * windowsIn f) (λ i. ltb (field f (cellAt f 2 i)) (field f (cellAt f e i)))))
+
+-- a window's cells together
+abbrev pub placedIn : List ℕ → ℕ → ℕ → ℕ
+placedIn f e j = sum (seatsIn f) (λ i. field f (cellAt f e (i * windowsIn f + j)))
+
+-- 15: window's cells above its supply | that supply
+unfoldable pub line15 : List ℕ → Option ℕ
+line15 f =
+    andThen (entryOf f 4)
+    (λ e. offset (cellAt f 1) (lowest (windowsIn f) (λ j. ltb (field f (cellAt f 1 j)) (placedIn f e j))))
+
+-- ---- lent buffer
+
+-- 16: shorter than the length needed | length needed
+unfoldable pub line16 : ℕ → ℕ → Option ℕ
+line16 room need = when (ltb room need) need
+
+-- ---- the refusal
+
+-- a line of the table: its number, and the offset where it holds
+pub record Line : Type 0 where
+  pub number : ℕ
+  pub place : Option ℕ
+
+abbrev pub line : ℕ → Option ℕ → Line
+line n p = record { number = n; place = p }
+
+-- a refusal holds its number and an offset
+pub record Refusal : Type 0 where
+  pub number : ℕ
+  pub at : ℕ
+
+abbrev pub refuse : ℕ → ℕ → Refusal
+refuse n p = record { number = n; at = p }
+
+abbrev pub orRefuse : ℕ → Option ℕ → Option Refusal → Option Refusal
+orRefuse n (some p) next = some (refuse n p)
+orRefuse n none next = next
+
+-- checks run down the lines: the first that holds is the refusal
+abbrev pub firstOf : List Line → Option Refusal
+firstOf [] = none
+firstOf (l ∷ ls) = orRefuse (l .number) (l .place) (firstOf ls)
+
+-- ---- the lines, by where they are checked
+
+unfoldable pub contentsLines : List ℕ → List Line
+contentsLines f =
+    line 1 (line1 f) ∷ line 2 (line2 f) ∷ line 3 (line3 f) ∷ line 4 (line4 f) ∷ line 5 (line5 f) ∷ line 6 (line6 f) ∷ []
+
+unfoldable pub lengthLines : List ℕ → List Line
+lengthLines f = line 7 (line7 f) ∷ line 8 (line8 f) ∷ line 9 (line9 f) ∷ []
+
+unfoldable pub valueLines : List ℕ → List Line
+valueLines f = line 10 (line10 f) ∷ line 11 (line11 f) ∷ line 12 (line12 f) ∷ []
+
+-- the lines of the kinds that may be missing: paper 01 has none
+unfoldable pub optionLines : List ℕ → List Line
+optionLines f = []
+
+unfoldable pub markerLines : List ℕ → List Line
+markerLines f = line 13 (line13 f) ∷ line 14 (line14 f) ∷ line 15 (line15 f) ∷ []
+
+unfoldable pub bufferLines : ℕ → ℕ → List Line
+bufferLines room need = line 16 (line16 room need) ∷ []
+
+-- ---- the lines of each call, down the table
+
+-- the reader, on a file
+unfoldable pub readLines : List ℕ → List Line
+readLines f = contentsLines f ++ (lengthLines f ++ (valueLines f ++ optionLines f))
+
+-- the marker, on a file and a buffer of `room` bytes
+unfoldable pub markLines : List ℕ → ℕ → List Line
+markLines f room = readLines f ++ (markerLines f ++ bufferLines room 93)
+
+-- the length of the file that the planner writes: the book's with a sheet, and its caps stand here for any sheet
+unfoldable pub plannedLength : Book → ℕ
+plannedLength b = length (fileOf b (some (b .caps)))
+
+-- the planner, on a file and a buffer
+unfoldable pub planLines : List ℕ → ℕ → List Line
+planLines f room = readLines f ++ bufferLines room (plannedLength (bookOf f))
+
+-- the writer, on the file that it would write and a buffer: 7, 8, 10, 11, 12, the lines of the kinds that may be missing, and 16
+unfoldable pub writeLines : List ℕ → ℕ → List Line
+writeLines f room =
+    line 7 (line7 f) ∷ line 8 (line8 f) ∷ (valueLines f ++ (optionLines f ++ bufferLines room (length f)))

@@ -1,0 +1,77 @@
+-- What the marker answers for a file and an output buffer, and what the buffer holds afterwards.
+use mathlib.Core.Path.{_≡_}
+use mathlib.Core.List.{List, [], _∷_}
+use mathlib.Core.Logic.{_⊎_}
+use Prim.Native.Nat.{ℕ, zero, suc, _+_, _-_, _*_}
+use lib.ListN.{length, getD, drop}
+use Rattle.fairness.specs.Exchange.{Move}
+use Rattle.model.specs.Lowest.{getOr}
+use Rattle.model.specs.Book.{Book, Grid}
+use Rattle.model.specs.Search.{Found, PathOn}
+use Rattle.model.specs.Marks.{Mark, wasteful, improvable, tied, settled, Result, markOf, resultOf}
+use Rattle.dayfile.specs.Layout.{bookOf, sheetOf}
+use Rattle.dayfile.specs.Table.{Refusal, refuse, markLines}
+use Rattle.dayfile.specs.Outcome.{Outcome, turnedAway, answer, outcome}
+use Rattle.dayfile.specs.Memory.{front}
+use Rattle.marker.specs.declared.Marking.{Marking}
+use Rattle.marker.specs.declared.Marking.the-variants.{Refused, Wasteful, Improvable, Tied, Settled}
+
+-- the sheet marked: the file's kind 4 body
+abbrev pub sheetIn : List ℕ → Grid
+sheetIn f = getOr (sheetOf f) []
+
+-- the mark of a file, or its refusal, where the output buffer has `room` bytes
+unfoldable pub markFile : List ℕ → ℕ → Outcome Mark
+markFile f room = outcome (markLines f room) (markOf (bookOf f) (sheetIn f))
+
+-- ---- the answer: paper 01's numbers and values of each case
+
+abbrev pub told : Marking → Outcome Result
+told (Refused number at) = turnedAway (refuse number at)
+told (Wasteful window seat) = answer (record { mark = 1; window = window; seat = seat; moves = 0 })
+told (Improvable moves) = answer (record { mark = 2; window = 0; seat = 0; moves = moves })
+told (Tied moves) = answer (record { mark = 3; window = 0; seat = 0; moves = moves })
+told Settled = answer (record { mark = 4; window = 0; seat = 0; moves = 0 })
+
+abbrev pub results : Outcome Mark → Outcome Result
+results (turnedAway q) = turnedAway q
+results (answer m) = answer (resultOf m)
+
+-- ---- the output buffer
+
+-- each move as three bytes, window, giver, taker, counted from 1; the receiver's (gainer's) move first
+unfoldable pub moveBytes : List Move → List ℕ
+moveBytes [] = []
+moveBytes (m ∷ ms) = (m .window + 1) ∷ (m .giver + 1) ∷ (m .taker + 1) ∷ moveBytes ms
+
+-- the first n moves that stand in a buffer
+unfoldable pub movesIn : ℕ → List ℕ → List Move
+movesIn zero buf = []
+movesIn (suc n) buf =
+    record { window = getD buf 0 0 - 1; giver = getD buf 1 0 - 1; taker = getD buf 2 0 - 1 } ∷ movesIn n (drop 3 buf)
+
+-- a path with the receiver, the donor and the number of moves that the search rule picks is written at the buffer's front, and
+-- the bytes after it keep their values. Its windows and middle seats are free.
+pub record PathWritten (b : Book) (s : Grid) (f : Found) (before after : List ℕ) : Type 0 where
+  pub moves : List Move
+  pub path : PathOn b s (f .receiver) (f .donor) moves
+  pub count : length moves ≡ f .moves
+  pub bytes : after ≡ front (moveBytes moves) before
+
+-- marks 2 and 3 write a path; marks 1 and 4 and a refusal change no byte
+abbrev pub BufferAfter : Book → Grid → Outcome Mark → List ℕ → List ℕ → Type 0
+BufferAfter b s (turnedAway q) before after = after ≡ before
+BufferAfter b s (answer (wasteful j i)) before after = after ≡ before
+BufferAfter b s (answer (improvable f)) before after = PathWritten b s f before after
+BufferAfter b s (answer (tied f)) before after = PathWritten b s f before after
+BufferAfter b s (answer settled) before after = after ≡ before
+
+-- the marker's contract
+pub record Marks (file before after : List ℕ) (r : Marking) : Type 0 where
+  pub says : told r ≡ results (markFile file (length before))
+  pub buffer : BufferAfter (bookOf file) (sheetIn file) (markFile file (length before)) before after
+
+-- the sheet passes: the answer is mark 3 or 4
+abbrev pub Passing : Outcome Result → Type 0
+Passing (turnedAway q) = ⊥
+Passing (answer r) = (r .mark ≡ 3) ⊎ (r .mark ≡ 4)

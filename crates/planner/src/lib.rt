@@ -1,0 +1,1 @@
+// Plans the sheet of a day file.
