@@ -1,6 +1,6 @@
 -- A grid's numbers in one list.
 -- Assumes nothing.
-use mathlib.Core.List.{List, [], _∷_, _++_, append-assoc}
+use mathlib.Core.List.{List, [], _∷_, _++_, append-assoc, append-nil}
 use mathlib.Core.Path.{_≡_, refl, sym, _∙_, ap, subst}
 use Prim.Native.Nat.{ℕ, zero, suc, _+_, _-_, _*_, _≤_, _<_}
 use native.Mathlib.Nat.{not-suc-le-zero, le-of-suc-le-suc, mul-le-mul-right}
@@ -11,6 +11,9 @@ use lib.Seq.{getD-append-add, ext-getD}
 use Rattle.model.specs.Book.{Grid, Shaped, cell}
 use Rattle.dayfile.specs.Layout.{field, fieldsAt, gridAt}
 use Rattle.dayfile.specs.File.{flat}
+use Rattle.fairness.specs.Leximin.{table}
+use Rattle.dayfile.specs.Memory.{sized, sizedGrid}
+use Rattle.dayfile.proofs.Tables.{sized-shaped, sized-grid-more}
 use Rattle.dayfile.proofs.Fields.{fields-length, fields-at, grid-row, grid-shaped}
 
 rest-shaped : (n m : ℕ) (r : List ℕ) (g : Grid) → Shaped (suc n) m (r ∷ g) → Shaped n m g
@@ -64,6 +67,21 @@ flat-cell (suc n) m (r ∷ g) s P h k l =
     later q =
         ap (λ (x : ℕ). getD (r ++ flat g) x 0) {x = k} {y = length r + (k - length r)} (omega arith)
         ∙ getD-append-add r (flat g) (k - length r) 0
+
+-- a grid of the first rows and columns: its length, and one more row
+pub sized-flat-length : (n m : ℕ) (g : Grid) → length (flat (sizedGrid n m g)) ≡ n * m
+sized-flat-length n m g = flat-length n m (sizedGrid n m g) (sized-shaped n m g)
+
+pub sized-flat-none : (m : ℕ) (g : Grid) → [] ≡ flat (sizedGrid 0 m g)
+unfolding flat sizedGrid table
+sized-flat-none m g = refl
+
+pub sized-flat-more : (n m : ℕ) (g : Grid) → flat (sizedGrid (n + 1) m g) ≡ flat (sizedGrid n m g) ++ sized m (getD g n [])
+unfolding flat
+sized-flat-more n m g =
+    ap flat (sized-grid-more n m g)
+    ∙ flat-append (sizedGrid n m g) (sized m (getD g n []) ∷ [])
+    ∙ ap (λ (xs : List ℕ). flat (sizedGrid n m g) ++ xs) (append-nil (sized m (getD g n [])))
 
 -- a grid read where its numbers lie
 pub grid-there : (f : List ℕ) (at n m : ℕ) (g : Grid) → Shaped n m g → fieldsAt f at (length (flat g)) ≡ flat g → gridAt f at n m ≡ g

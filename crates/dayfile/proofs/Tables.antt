@@ -4,6 +4,7 @@ use mathlib.Core.List.{List, [], _∷_, _++_}
 use mathlib.Core.Path.{_≡_, refl, sym, _∙_, ap, ap₂}
 use Prim.Native.Nat.{ℕ, zero, suc, _+_, _-_, _≤_, _<_}
 use native.Mathlib.Nat.{add-zero, not-suc-le-zero, le-of-suc-le-suc}
+use native.Mathlib.Numerals.{add-one}
 use native.Mathlib.Decide.{decLt, ℕ-discrete}
 use native.Mathlib.Omega.{arith}
 use lib.ListN.{length, take, getD, set, replicate, length-set, List·getD-eq-default}
@@ -33,6 +34,15 @@ module _ {A : Type 0} where
   table-same (suc n) g h e =
       ap₂ (λ (x : A) (xs : List A). x ∷ xs) (e 0 (omega arith))
       (table-same n (λ i. g (suc i)) (λ i. h (suc i)) (λ i p. e (suc i) (omega arith)))
+
+  table-snoc : (n : ℕ) (g : ℕ → A) → table (suc n) g ≡ table n g ++ (g n ∷ [])
+  unfolding table
+  table-snoc zero g = refl
+  table-snoc (suc n) g = ap (λ (xs : List A). g 0 ∷ xs) (table-snoc n (λ i. g (suc i)))
+
+  -- one more
+  pub table-more : (n : ℕ) (g : ℕ → A) → table (n + 1) g ≡ table n g ++ (g n ∷ [])
+  table-more n g = ap (λ (k : ℕ). table k g) (add-one n) ∙ table-snoc n g
 
   -- the front of a list
   pub table-take : (n : ℕ) (xs : List A) (d : A) → n ≤ length xs → table n (λ i. getD xs i d) ≡ take n xs
@@ -161,6 +171,10 @@ pub sized-at : (n : ℕ) (xs : List ℕ) (i : ℕ) → i < n → getD (sized n x
 unfolding sized
 sized-at n xs i h = table-at n (λ k. getD xs k 0) i 0 h
 
+pub sized-more : (n : ℕ) (xs : List ℕ) → sized (n + 1) xs ≡ sized n xs ++ (getD xs n 0 ∷ [])
+unfolding sized
+sized-more n xs = table-more n (λ i. getD xs i 0)
+
 pub sized-take : (n : ℕ) (xs : List ℕ) → n ≤ length xs → sized n xs ≡ take n xs
 unfolding sized
 sized-take n xs h = table-take n xs 0 h
@@ -174,6 +188,10 @@ sized-again n m xs h e =
 pub sized-row : (n m : ℕ) (g : Grid) (i : ℕ) → i < n → getD (sizedGrid n m g) i [] ≡ sized m (getD g i [])
 unfolding sizedGrid
 sized-row n m g i h = table-at n (λ k. sized m (getD g k [])) i [] h
+
+pub sized-grid-more : (n m : ℕ) (g : Grid) → sizedGrid (n + 1) m g ≡ sizedGrid n m g ++ (sized m (getD g n []) ∷ [])
+unfolding sizedGrid
+sized-grid-more n m g = table-more n (λ i. sized m (getD g i []))
 
 pub sized-shaped : (n m : ℕ) (g : Grid) → Shaped n m (sizedGrid n m g)
 unfolding sizedGrid

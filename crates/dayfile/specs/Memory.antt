@@ -95,3 +95,8 @@ front file buf = file ++ drop (length file) buf
 abbrev pub after : {A : Type 0} → Outcome A → List ℕ → List ℕ → List ℕ
 after (turnedAway q) file buf = buf
 after (answer x) file buf = front file buf
+
+-- what a call that writes a file answers, and its output buffer afterwards
+pub record Writes (o : Outcome ℕ) (file buf : List ℕ) (r : Written.Written) (end : List ℕ) : Type 0 where
+  pub says : written r ≡ o
+  pub leaves : end ≡ after o file buf

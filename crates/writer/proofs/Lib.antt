@@ -1,0 +1,4 @@
+pub mod Storing
+pub mod Files
+pub mod Bounds
+pub mod Checks
