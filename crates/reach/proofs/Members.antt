@@ -1,0 +1,63 @@
+-- Members of masks, as tests and lists of masks have them. Assumes nothing.
+use mathlib.Core.Path.{_≡_, sym, _∙_}
+use mathlib.Core.Bool.{Bool, true, false}
+use mathlib.Core.List.{List}
+use Prim.Native.Nat.{ℕ, _+_, _^_, _<_, _≤_, max}
+use native.Mathlib.Decide.{ℕ-discrete, decLt}
+use native.Mathlib.Omega.{arith}
+use lib.Dec.{eqb}
+use lib.ListN.{length, getD, set, List·getD-eq-default}
+use lib.Seq.{getD-set-same, getD-set-other}
+use borrow.Author.Tests.{eqb-true, eqb-false}
+use Rattle.masks.specs.Sets.{bit, In, Within, sizeOf}
+use Rattle.masks.proofs.Laws.{bit-lt, bit-zero, in-small, within-size, within-less}
+use Rattle.reach.specs.Graphs.{setAt}
+
+-- what the test of a member says
+pub has-in : (m i : ℕ) (r : Bool) → r ≡ eqb (bit m i) 1 → r ≡ true → In i m
+has-in m i r e t = eqb-true (bit m i) 1 (sym e ∙ t)
+
+pub has-out : (m i : ℕ) (r : Bool) → r ≡ eqb (bit m i) 1 → r ≡ false → In i m → ⊥
+has-out m i r e t = eqb-false (bit m i) 1 (sym e ∙ t)
+
+-- what is not a member has bit 0
+pub out-zero : (m i : ℕ) → (In i m → ⊥) → bit m i ≡ 0
+out-zero m i f = elim (ℕ-discrete (bit m i) 1) [ yes e ↦ absurd (f e) | no e ↦ omega (arith, bit-lt m i) ]
+
+-- past the end of a list of sets nothing is a member
+pub at-small : (sets : List ℕ) (i l : ℕ) → In l (setAt sets i) → i < length sets
+at-small sets i l p =
+    elim (decLt i (length sets)) [
+      | yes h ↦ h
+      | no h ↦
+          let z : length sets ≤ i = omega arith in
+          absurd (omega (arith, rw (List·getD-eq-default sets 0 z) at p, bit-zero l))
+    ]
+
+-- a store at n of what is right there, where all before n is right
+pub filled : (P : ℕ → ℕ → Type 0) (sets : List ℕ) (n v : ℕ) → n < length sets → ((k : ℕ) → k < n → P k (setAt sets k)) → P n v
+    → (k : ℕ) → k < n + 1 → P k (setAt (set sets n v) k)
+filled P sets n v h f p k l =
+    elim (ℕ-discrete k n) [
+      | yes q ↦ rw q (rw (getD-set-same sets n v 0 h) p)
+      | no d ↦ rw (getD-set-other sets n k v 0 d) (f k (omega arith))
+    ]
+
+-- a set grows by what is not within it, and by nothing else: the count of members shows it
+module _ (set more both : ℕ) (fits : more < 2 ^ 32) (joined : (k : ℕ) → bit both k ≡ max (bit set k) (bit more k)) where
+  pub grown : sizeOf both ≤ sizeOf set → Within more set
+  grown h k =
+      elim (decLt (bit set k) (bit more k)) [
+        | yes l ↦ absurd (omega (arith, within-less set both k (small l) (λ i. omega (arith, joined i)) (omega (arith, joined k))))
+        | no l ↦ omega arith
+      ]
+    where
+      small : bit set k < bit more k → k < 32
+      small l = in-small more k fits (omega (arith, bit-lt more k))
+
+  pub not-grown : Within more set → sizeOf both ≤ sizeOf set
+  not-grown w = within-size both set (λ k. omega (arith, joined k, w k))
+
+-- l is in the set at n and not in that at r, so r comes before n
+pub before-end : (sets : List ℕ) (r n l : ℕ) → r ≤ n → (In l (setAt sets r) → ⊥) → In l (setAt sets n) → r < n
+before-end sets r n l h out p = elim (ℕ-discrete n r) [ yes e ↦ absurd (out (rw e at p)) | no d ↦ omega arith ]

@@ -1,0 +1,60 @@
+-- `reach::first_through` meets its contract.
+use borrow.Author.Needs.{needs}
+use Prim.Native.Nat.{ℕ, _-_, _≤_, _<_}
+use mathlib.Core.Logic.{⊎-elim}
+use native.Mathlib.Omega.{arith}
+use borrow.Author.Count.{below-more}
+use lib.ListN.{length}
+use Rattle.reach.specs.Graphs.{Leads}
+use Rattle.reach.proofs.Members.{has-in, has-out, at-small}
+use Rattle.reach.proofs.first_through.Statement.{statement}
+use Rattle.reach.proofs.first_through.Tie as tie
+
+abbrev Inv-loop : tie.InvT-loop
+Inv-loop set sets l i₀ i-end i = (i ≤ length sets) × ((k : ℕ) → k < i → Leads set sets l k → ⊥)
+
+abbrev μ-loop : tie.MeasureT-loop
+μ-loop set sets l i₀ i-end i = length sets - i
+
+returns : tie.Need-returns Inv-loop μ-loop
+returns c =
+    let outer = c .before .before .before in
+    record {
+      member = has-in _ _ _ (outer .before .has .ensures) (outer .if1 .taken);
+      leads = has-in _ _ _ (c .before .has2 .ensures) (c .if2 .taken);
+    }
+
+loop-again : tie.Need-loop-again Inv-loop μ-loop
+loop-again c =
+    let at = c .before .before .before .loop in
+    let answer = c .before .has .ensures in
+    let not-here : Leads _ _ _ (at .i) → ⊥ =
+    (λ p. ⊎-elim
+    (λ w. has-out _ _ _ (w .2 .ensures) (w .3 .left) (p .leads))
+    (λ w. has-out _ _ _ answer (w .left) (p .member))
+    (c .if1 .came)) in
+    (search needs, below-more _ _ (at .inv .1) not-here)
+
+returns-2 : tie.Need-returns-2 Inv-loop μ-loop
+returns-2 c =
+    let start = c .before .before .before in
+    let t = start .pre .1 in
+    let small = at-small (start .args .sets .now) (t .via) (start .args .l) (t .here .leads) in
+    absurd (c .before .loop .inv .1 (t .via) (omega arith) (t .here))
+
+pub first-through-spec : {M : Type 1} → statement M
+first-through-spec =
+    tie.close
+    (tie.spec
+    Inv-loop
+    μ-loop
+    (λ c. search needs)
+    (λ c κs. search needs)
+    (λ c. search needs)
+    (λ c. search needs)
+    (λ c κs. search needs)
+    returns
+    (λ c. search needs)
+    (λ c. search needs)
+    loop-again
+    returns-2)

@@ -1,0 +1,143 @@
+// Which seats a receiver reaches: sets of seats as masks, grown along the moves that are possible.
+ghost use mathlib.Core.Path.{_≡_};
+ghost use mathlib.Core.Bool.{false};
+ghost use Prim.Native.Nat.{ℕ, _≤_, _<_};
+ghost use lib.ListN.{length};
+ghost use Rattle.masks.specs.Sets.{bit, Within};
+ghost use Rattle.reach.specs.Graphs.{setAt, Leads, Through, UnionOver, Sound, Answers, Apart, Layers, Fewest};
+use masks::has;
+use masks::insert;
+use masks::intersect;
+use masks::lowest;
+use masks::minus;
+use masks::remove;
+use masks::size;
+use masks::union;
+
+// Who can take a credit from whom.
+pub struct Graph {
+    // For each seat the windows in which it is below its cap.
+    pub rooms: [u32; 32],
+    // For each window the seats that have a credit there.
+    pub holders: [u32; 24],
+    // For each seat those from which it can take.
+    pub takes: [u32; 32],
+}
+
+// The first seat that has a donor.
+pub enum Receiver {
+    Nobody,
+    Seat(usize),
+}
+
+// The union of the sets at the members of a set.
+pub fn union_over(set: u32, sets: &[u32]) -> u32
+    requires { ⌜ length (now sets) ≤ 32 ⌝ }
+    ensures { λ r. ⌜ UnionOver set (now (sets .entry)) r ⌝ }
+{
+    let mut all: u32 = 0;
+    for i in 0..sets.len() {
+        if has(set, i) {
+            all = union(all, sets[i]);
+        }
+    }
+    all
+}
+
+// A member of a set whose own set has l.
+pub fn first_through(set: u32, sets: &[u32], l: usize) -> usize
+    requires { ⌜ (length (now sets) ≤ 32) × (l < 32) ⌝ }
+    requires { ⌜ Through set (now sets) l ⌝ }
+    ensures { λ r. ⌜ Leads set (now (sets .entry)) l r ⌝ }
+{
+    for i in 0..sets.len() {
+        if has(set, i) {
+            if has(sets[i], l) {
+                return i;
+            }
+        }
+    }
+    0
+}
+
+// Whether a set would grow by the members of another.
+pub fn grows(set: u32, more: u32) -> bool
+    ensures { λ r. ⌜ ((r ≡ false → Within more set) × (Within more set → r ≡ false)) ⌝ }
+{
+    size(set) < size(union(set, more))
+}
+
+// The graph of the rooms and the holders.
+pub fn draw(rooms: [u32; 32], holders: [u32; 24]) -> Graph
+    ensures { λ r. ⌜ (r .rooms ≡ rooms) × ((r .holders ≡ holders) × Sound r) ⌝ }
+{
+    let mut takes = [0u32; 32];
+    for i in 0..32 {
+        takes[i] = union_over(rooms[i], &holders);
+    }
+    Graph {
+        rooms,
+        holders,
+        takes,
+    }
+}
+
+// What each number of moves reaches from a seat, 0 to 31 moves.
+pub fn layers(takes: [u32; 32], g: usize) -> [u32; 32]
+    requires { ⌜ g < 32 ⌝ }
+    ensures { λ r. ⌜ Layers takes g r ⌝ }
+{
+    let mut set = insert(0, g);
+    let mut sets = [0u32; 32];
+    for r in 0..32 {
+        sets[r] = set;
+        set = union(set, union_over(set, &takes));
+    }
+    sets
+}
+
+// The fewest moves that reach a seat.
+pub fn fewest(sets: [u32; 32], l: usize) -> usize
+    requires { ⌜ (l < 32) × (bit (setAt sets 31) l ≡ 1) ⌝ }
+    ensures { λ r. ⌜ Fewest sets l r ⌝ }
+{
+    let mut r = 0;
+    while !has(sets[r], l) {
+        r += 1;
+    }
+    r
+}
+
+// The first seat, from seat 0 up, from which moves reach one that it wants. Of each seat that is reached, every window in which it has
+// room is looked at in turn, unless it brings nothing new.
+pub fn first_receiver(graph: Graph, wants: [u32; 32], seats: usize) -> Receiver
+    requires { ⌜ (seats ≤ 32) × (Sound graph × Apart wants) ⌝ }
+    ensures { λ r. ⌜ Answers (graph .takes) wants seats r ⌝ }
+{
+    let rooms = graph.rooms;
+    let holders = graph.holders;
+    let takes = graph.takes;
+    let mut found = Receiver::Nobody;
+    'receiver: for g in 0..seats {
+        let mut seen = insert(0, g);
+        let mut front = seen;
+        'reached: while front != 0 {
+            let k = lowest(front);
+            front = remove(front, k);
+            if grows(seen, takes[k]) {
+                for w in 0..24 {
+                    if has(rooms[k], w) {
+                        let new = minus(holders[w], seen);
+                        if intersect(new, wants[g]) != 0 {
+                            found = Receiver::Seat(g);
+                            break 'receiver;
+                        }
+                        front = union(front, new);
+                        seen = union(seen, new);
+                    }
+                }
+            }
+        }
+    }
+    found
+}
