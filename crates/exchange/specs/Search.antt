@@ -8,7 +8,7 @@ use Rattle.fairness.specs.Instance.{Instance}
 use Rattle.fairness.specs.Exchange as fairness
 use Rattle.sheet.specs.Sheets.{moveOf}
 use Rattle.reach.specs.declared.Graph.{Graph}
-use Rattle.reach.specs.Graphs.{Layers}
+use Rattle.reach.specs.Graphs.{Reach, Donor, Layers}
 use Rattle.exchange.specs.declared.Route.{Route}
 use Rattle.exchange.specs.declared.Exchange.{Exchange}
 use Rattle.exchange.specs.declared.Rule.{Rule}
@@ -29,6 +29,21 @@ pub record RouteTo (graph : Graph) (sets : List ℕ) (donor count : ℕ) (route 
   pub counted : length (movesOf route) ≡ count
   pub path : (I : Instance) (S : ℕ → ℕ → ℕ) (seats g : ℕ) → Drawn I S seats graph → Layers (graph .takes) g sets →
       fairness.Path I S g donor (movesOf route)
+
+-- g reaches some donor that it wants
+abbrev pub HasDonor : List ℕ → List ℕ → ℕ → Type 0
+HasDonor takes wants g = (l : ℕ) × Donor takes wants g l
+
+-- the exchange of a receiver g: the lowest donor of those that g reaches and wants, and a path to it that has the fewest moves
+pub record Nearest (graph : Graph) (wants : List ℕ) (g : ℕ) (x : Exchange) : Type 0 where
+  pub found : x .found ≡ true
+  pub receiver-is : x .receiver ≡ g
+  pub donor-is : Donor (graph .takes) wants g (x .donor)
+  pub lowest : (l : ℕ) → l < x .donor → Donor (graph .takes) wants g l → ⊥
+  pub fewest : (r : ℕ) → r < x .route .count → Reach (graph .takes) r g (x .donor) → ⊥
+  pub counted : length (movesOf (x .route)) ≡ x .route .count
+  pub path : (I : Instance) (S : ℕ → ℕ → ℕ) (seats : ℕ) → Drawn I S seats graph →
+      fairness.Path I S g (x .donor) (movesOf (x .route))
 
 -- what paper 01's rule picks for a test: the first receiver that has a path which passes, its lowest donor, and a path between the two
 -- that has the fewest moves

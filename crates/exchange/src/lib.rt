@@ -1,6 +1,6 @@
 // The search for exchange paths, which the marker and the planner call.
 ghost use mathlib.Core.Path.{_≡_};
-ghost use mathlib.Core.Bool.{true};
+ghost use mathlib.Core.Bool.{true, false};
 ghost use Prim.Native.Nat.{ℕ, _≤_, _<_};
 ghost use lib.ListN.{getD};
 ghost use Rattle.fairness.specs.Instance.{Instance};
@@ -8,7 +8,7 @@ ghost use Rattle.fairness.specs.Numbers.{Moderate};
 ghost use Rattle.reach.specs.Graphs.{Collects, Rows, Sound, Layers, Fewest, Donor};
 ghost use Rattle.exchange.specs.Held.{Held, Scored, Bounded, Drawn};
 ghost use Rattle.exchange.specs.Tests.{testBy, testOn};
-ghost use Rattle.exchange.specs.Search.{Answers, Layered, RouteTo};
+ghost use Rattle.exchange.specs.Search.{Answers, HasDonor, Layered, Nearest, RouteTo};
 use reach::Graph;
 use reach::Receiver;
 use sheet::Move;
@@ -165,4 +165,69 @@ pub fn route_to(graph: Graph, sets: [u32; 32], donor: usize, count: usize) -> Ro
         giver = taker;
     }
     Route { count, moves }
+}
+
+// The exchange of a receiver that has a donor which it wants: the lowest such donor, and a path to it that has the fewest moves.
+pub fn exchange_of(graph: Graph, wants: [u32; 32], g: usize) -> Exchange
+    requires { ⌜ (g < 32) × (Sound graph × HasDonor (graph .takes) wants g) ⌝ }
+    ensures { λ r. ⌜ Nearest graph wants g r ⌝ }
+{
+    let takes = graph.takes;
+    let sets = reach::layers(takes, g);
+    let donor = masks::lowest(masks::intersect(sets[31], wants[g]));
+    let count = reach::fewest(sets, donor);
+    Exchange {
+        found: true,
+        receiver: g,
+        donor,
+        route: route_to(graph, sets, donor, count),
+    }
+}
+
+// No exchange.
+fn nothing() -> Exchange
+    ensures { λ r. ⌜ (r .found ≡ false) × (r .route .count ≡ 0) ⌝ }
+{
+    let none = Move {
+        window: 0,
+        giver: 0,
+        taker: 0,
+    };
+    Exchange {
+        found: false,
+        receiver: 0,
+        donor: 0,
+        route: Route {
+            count: 0,
+            moves: [none; 31],
+        },
+    }
+}
+
+// The search on a graph: the first receiver that has a path which the rule wants, its lowest donor, and a path between the two that has
+// the fewest moves.
+pub fn search_graph(rule: Rule, scores: Scores, graph: Graph, seats: usize) -> Exchange
+    requires { ⌜ (seats ≤ 32) × (Bounded seats scores × Sound graph) ⌝ }
+    ensures { λ r. ⌜ ((I : Instance) (S : ℕ → ℕ → ℕ) → Drawn I S seats graph → Scored I S seats scores → Answers I S rule r) ⌝ }
+{
+    let wants = wants(rule, scores, seats);
+    match reach::first_receiver(graph, wants, seats) {
+        Receiver::Nobody => nothing(),
+        Receiver::Seat(g) => exchange_of(graph, wants, g),
+    }
+}
+
+// The search on a sheet.
+pub fn search(
+    rule: Rule,
+    scores: Scores,
+    sheet: Sheet,
+    caps: [[u16; 24]; 32],
+    seats: usize,
+    windows: usize,
+) -> Exchange
+    requires { ⌜ (seats ≤ 32) × ((windows ≤ 24) × Bounded seats scores) ⌝ }
+    ensures { λ r. ⌜ ((I : Instance) (S : ℕ → ℕ → ℕ) → Held I S seats windows caps sheet → Scored I S seats scores → Answers I S rule r) ⌝ }
+{
+    search_graph(rule, scores, graph(sheet, caps, seats, windows), seats)
 }
