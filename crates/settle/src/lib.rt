@@ -4,13 +4,16 @@ ghost use Prim.Native.Nat.{ℕ, min, _+_, _≤_, _<_};
 ghost use lib.ListN.{getD, length};
 ghost use Rattle.fairness.specs.Sums.{sum};
 ghost use Rattle.fairness.specs.Instance.{Instance, Feasible};
-ghost use Rattle.fairness.specs.Exchange.{playAll};
+ghost use Rattle.fairness.specs.Exchange.{playAll, Settled};
 ghost use Rattle.sheet.specs.Sheets.{credit};
 ghost use Rattle.exchange.specs.Search.{movesOf};
-ghost use Rattle.terms.specs.Terms.{instanceIn, Told, Ranged, Small};
+ghost use Rattle.terms.specs.Terms.{instanceIn, Told, Ranged, Small, Counted};
 ghost use Rattle.settle.specs.Fill.{Filled, Full};
 ghost use Rattle.settle.specs.Routes.{AllPlayable};
+ghost use Rattle.settle.specs.Offers.{Offers};
+use exchange::Exchange;
 use exchange::Route;
+use exchange::Rule;
 use sheet::Sheet;
 use terms::Terms;
 
@@ -81,4 +84,36 @@ pub fn play_route(sheet: Sheet, route: Route) -> Sheet
         after = after.play(m);
     }
     after
+}
+
+// An exchange to play: one that improves, and where there is none one that ties wrongly.
+pub fn next(sheet: Sheet, caps: [[u16; 24]; 32], t: Terms) -> Exchange
+    requires { ⌜ Ranged t × Counted t sheet ⌝ }
+    ensures { λ r. ⌜ ((I : Instance) → Told I t caps → Offers I (credit sheet) r) ⌝ }
+{
+    let seats = t.seats;
+    let windows = t.windows;
+    let scores = terms::scores_of(sheet, t);
+    let graph = exchange::graph(sheet, caps, seats, windows);
+    let better = exchange::search_graph(Rule::Improves, scores, graph, seats);
+    if better.found {
+        return better;
+    }
+    exchange::search_graph(Rule::TiesWrongly, scores, graph, seats)
+}
+
+// A settled sheet of the same book: free credits are handed out, and exchanges played until none is left.
+pub fn settle(sheet: Sheet, caps: [[u16; 24]; 32], t: Terms) -> Sheet
+    requires { ⌜ Small t caps × Feasible (instanceIn t caps) (credit sheet) ⌝ }
+    ensures { λ r. ⌜ ((I : Instance) → Told I t caps → Settled I (credit r)) ⌝ }
+{
+    let mut settled = fill_free(sheet, caps, t);
+    loop {
+        let exchange = next(settled, caps, t);
+        if !exchange.found {
+            return settled;
+        }
+        let route = exchange.route;
+        settled = play_route(settled, route);
+    }
 }
