@@ -80,13 +80,15 @@ module _ (I : Instance) (S : ℕ → ℕ → ℕ) (seats : ℕ) (scores : Scores
   test-same TiesWrongly g l a b =
       rw (s .heights-are g a, s .weights-are g a, s .positions-are g a, s .heights-are l b, s .weights-are l b, s .positions-are l b) refl
 
-  module _ (rule : Rule) (graph : Graph) (wants : List ℕ) (d : Drawn I S seats graph) (sound : Sound graph) (w : Wants rule scores seats wants) where
+  module _ (rule : Rule) (graph : Graph) (wants : List ℕ) (d : Drawn I S seats graph) (sound : Sound graph)
+      (w : Wants rule scores seats wants) where
     -- a path to a donor that the rule wants
     donor-of : (g l : ℕ) (ms : List fairness.Move) → g < seats → fairness.Path I S g l ms → testOf rule I S g l ≡ true
         → Donor (graph .takes) wants g l
     donor-of g l ms h p t =
         let r = within-reach I S seats graph d sound (length ms) g l (path-within I S g l ms p) in
-        let k : l < seats = omega (arith, reach-seat I S seats graph d sound (length ms) g l (omega (arith, d .seats-are)) r, d .seats-are) in
+        let there = reach-seat I S seats graph d sound (length ms) g l (omega (arith, d .seats-are)) r in
+        let k : l < seats = omega (arith, there, d .seats-are) in
         record { moves = length ms; reached = r; wanted = w g l .1 (h, (k, sym (test-same rule g l h k) ∙ t)) }
 
     -- the seat that a receiver wants passes
@@ -107,7 +109,8 @@ module _ (I : Instance) (S : ℕ → ℕ → ℕ) (seats : ℕ) (scores : Scores
         go : (ns : List fairness.Move) → fairness.Path I S g (x .donor) ns → Dec (length ns < x .route .count)
             → length (movesOf (x .route)) ≤ length ns
         go ns p (yes h) =
-            absurd (n .fewest (length ns) h (within-reach I S seats graph d sound (length ns) g (x .donor) (path-within I S g (x .donor) ns p)))
+            let w = path-within I S g (x .donor) ns p in
+            absurd (n .fewest (length ns) h (within-reach I S seats graph d sound (length ns) g (x .donor) w))
         go ns p (no h) = omega (arith, n .counted)
 
     pub nobody : ((g l : ℕ) → g < seats → Donor (graph .takes) wants g l → ⊥) → fairness.Exchange I S (testOf rule I S) → ⊥

@@ -36,7 +36,8 @@ above-zero m n v cells c w = (
   λ p. c w .1 (p .0, omega (arith, p .1, zero-at m w)),
 )
 
-module _ (sheet : Sheet) (caps : Grid) (seats windows : ℕ) (graph : Graph) (held : List ℕ) (few-seats : seats ≤ 32) (few-windows : windows ≤ 24)
+module _ (sheet : Sheet) (caps : Grid) (seats windows : ℕ) (graph : Graph) (held : List ℕ)
+    (few-seats : seats ≤ 32) (few-windows : windows ≤ 24)
     (rooms : Rows seats (HasRoom sheet caps windows) (graph .rooms)) (rows : Rows seats (HasCredit sheet windows) held)
     (columns : Rows 24 (λ w i. (i < 32) × In w (setAt held i)) (graph .holders)) where
   module _ (I : Instance) (S : ℕ → ℕ → ℕ) (h : Held I S seats windows caps sheet) where
@@ -57,7 +58,8 @@ module _ (sheet : Sheet) (caps : Grid) (seats windows : ℕ) (graph : Graph) (he
         let in-window : w < windows = omega (arith, p .in-window, h .windows-are) in
         let in-giver : l < seats = omega (arith, p .in-giver, h .seats-are) in
         let in-taker : k < seats = omega (arith, p .in-taker, h .seats-are) in
-        let room : credit sheet k w < cell caps k w = omega (arith, p .room, h .cells-are k w in-taker in-window, h .caps-are k w in-taker in-window) in
+        let cells = h .cells-are k w in-taker in-window in
+        let room : credit sheet k w < cell caps k w = omega (arith, p .room, cells, h .caps-are k w in-taker in-window) in
         let has : 0 < credit sheet l w = omega (arith, p .has, h .cells-are l w in-giver in-window) in
         record {
           member = rooms k w .1 (in-taker, (in-window, room));

@@ -3,3 +3,5 @@ pub mod Drawing
 pub mod Routes
 pub mod Bridge
 pub mod Choosing
+-- what callers cite
+pub mod Theorems

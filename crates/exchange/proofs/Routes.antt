@@ -60,7 +60,8 @@ pub stored : (ms : List Move) (r n : ℕ) (m : Move) → r < n → n ≤ length 
 stored ms r n m h l =
     let long : r < length (take n ms) = omega (arith, length-take n ms) in
     let long′ : r < length (set (take n ms) r m) = omega (arith, length-set (take n ms) r m) in
-    rw (take-set-lt n ms r m, drop-cons (set (take n ms) r m) r m, getD-set-same (take n ms) r m m, drop-set-lt (suc r) (take n ms) r m (omega arith)) refl
+    let after = drop-set-lt (suc r) (take n ms) r m (omega arith) in
+    rw (take-set-lt n ms r m, drop-cons (set (take n ms) r m) r m, getD-set-same (take n ms) r m m, after) refl
 
 pub step-back : (rooms holders sets : List ℕ) (moves : List Move) (donor count r giver taker window : ℕ) → r < count → count ≤ length moves
     → Leads (setAt rooms taker) holders giver window → Fewest sets giver (suc r)
@@ -83,7 +84,8 @@ module _ (I : Instance) (S : ℕ → ℕ → ℕ) (seats : ℕ) (graph : Graph) 
   linked g r l [] w = w
   linked g r l (m ∷ ms) w = (w .0, linked (m .giver) (suc r) l ms (w .1 .1 .1))
 
-  possible : (g r l : ℕ) (ms : List Move) → Walk (graph .rooms) (graph .holders) sets g r ms l → fairness.All (fairness.Possible I S) (map moveOf ms)
+  possible : (g r l : ℕ) (ms : List Move) → Walk (graph .rooms) (graph .holders) sets g r ms l →
+      fairness.All (fairness.Possible I S) (map moveOf ms)
   possible g r l [] w = tt
   possible g r l (m ∷ ms) w =
       (d .shown (m .taker) (m .giver) (m .window) .0 (w .1 .0), possible (m .giver) (suc r) l ms (w .1 .1 .1))
@@ -92,7 +94,8 @@ module _ (I : Instance) (S : ℕ → ℕ → ℕ) (seats : ℕ) (graph : Graph) 
   givers ms = map (λ (m : fairness.Move). m .giver) (map moveOf ms)
 
   -- a seat of an earlier layer is not among the givers
-  apart : (x q g r l : ℕ) (ms : List Move) → q ≤ r → Fewest sets x q → Walk (graph .rooms) (graph .holders) sets g r ms l → fairness.All (λ y. x ≡ y → ⊥) (givers ms)
+  apart : (x q g r l : ℕ) (ms : List Move) → q ≤ r → Fewest sets x q → Walk (graph .rooms) (graph .holders) sets g r ms l →
+      fairness.All (λ y. x ≡ y → ⊥) (givers ms)
   unfolding givers
   apart x q g r l [] h f w = tt
   apart x q g r l (m ∷ ms) h f w = (
@@ -100,12 +103,14 @@ module _ (I : Instance) (S : ℕ → ℕ → ℕ) (seats : ℕ) (graph : Graph) 
     apart x q (m .giver) (suc r) l ms (omega arith) f (w .1 .1 .1),
   )
 
-  distinct : (g r l : ℕ) (ms : List Move) → Fewest sets g r → Walk (graph .rooms) (graph .holders) sets g r ms l → fairness.Distinct (g ∷ givers ms)
+  distinct : (g r l : ℕ) (ms : List Move) → Fewest sets g r → Walk (graph .rooms) (graph .holders) sets g r ms l →
+      fairness.Distinct (g ∷ givers ms)
   unfolding givers
   distinct g r l [] f w = (tt, tt)
   distinct g r l (m ∷ ms) f w = (apart g r g r l (m ∷ ms) (omega arith) f w, distinct (m .giver) (suc r) l ms (w .1 .1 .0) (w .1 .1 .1))
 
-  walk-path : (g l : ℕ) (ms : List Move) → Fewest sets g 0 → Walk (graph .rooms) (graph .holders) sets g 0 ms l → fairness.Path I S g l (map moveOf ms)
+  walk-path : (g l : ℕ) (ms : List Move) → Fewest sets g 0 → Walk (graph .rooms) (graph .holders) sets g 0 ms l →
+      fairness.Path I S g l (map moveOf ms)
   unfolding givers
   walk-path g l ms f w = record { linked = linked g 0 l ms w; possible = possible g 0 l ms w; distinct = distinct g 0 l ms f w }
 

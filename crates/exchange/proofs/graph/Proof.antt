@@ -43,7 +43,9 @@ returns c =
     let rooms : Rows (a .seats) (HasRoom (a .t1) (a .t2) (a .windows)) (c .draw .result .rooms) = rw (g .0, ← e) (at .inv .1 .1 .0) in
     let held = rw e at (at .inv .1 .1 .1) in
     let columns = rw (← (g .1 .0)) at (c .before .columns .ensures) in
-    (g .1 .1, λ I S h. drawn (a .t1) (a .t2) (a .seats) (a .windows) (c .draw .result) (at .held) (start .pre .0) (start .pre .1) rooms held columns I S h)
+    let few = start .pre in
+    let shows = drawn (a .t1) (a .t2) (a .seats) (a .windows) (c .draw .result) (at .held) (few .0) (few .1) rooms held columns in
+    (g .1 .1, shows)
 
 pub graph-spec : {M : Type 1} → statement M
 graph-spec =

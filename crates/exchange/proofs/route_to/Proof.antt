@@ -21,6 +21,10 @@ Inv-loop donor count sets rooms holders takes moves₀ giver₀ r₀ moves giver
 abbrev μ-loop : tie.MeasureT-loop
 μ-loop donor count sets rooms holders takes moves₀ giver₀ r₀ moves giver r = r
 
+-- there is a layer before, and room for its move
+layer-small : (c : tie.In-loop Inv-loop μ-loop) → c .before .loop .r - 1 < 31
+layer-small c = omega (arith, c .before .loop .inv .1 .1 .1 .0 .small)
+
 -- a seat that can take from another is below 32
 taker-small : (c : tie.After-first-through Inv-loop μ-loop) → c .first-through .result < 32
 taker-small c =
@@ -38,14 +42,10 @@ loop-holds c =
     (refl, (omega arith, (in-small _ _ (fits .fits) (f .here), (f, rw none refl))))
 
 mul-first-through : tie.Need-mul-first-through Inv-loop μ-loop
-mul-first-through c =
-    let here : c .before .loop .r - 1 < 31 = omega (arith, c .before .loop .inv .1 .1 .1 .0 .small) in
-    search needs
+mul-first-through c = let here = layer-small c in search needs
 
 array-read-first-through : tie.Need-array-read-first-through Inv-loop μ-loop
-array-read-first-through c =
-    let here : c .before .loop .r - 1 < 31 = omega (arith, c .before .loop .inv .1 .1 .1 .0 .small) in
-    omega arith
+array-read-first-through c = omega (arith, layer-small c)
 
 first-through-requires : tie.Need-first-through-requires Inv-loop μ-loop
 first-through-requires c κs =
@@ -71,14 +71,10 @@ first-through-requires-2 c κs =
     ((omega arith, at .inv .1 .1 .0), start .pre .0 _ .sound _ (c .before .first-through .ensures .leads))
 
 mul-moves : tie.Need-mul-moves Inv-loop μ-loop
-mul-moves c =
-    let here : c .before .before .before .before .before .loop .r - 1 < 31 = omega (arith, c .before .before .before .before .before .loop .inv .1 .1 .1 .0 .small) in
-    search needs
+mul-moves c = let here = layer-small (c .before .before .before .before) in search needs
 
 array-set-from-moves : tie.Need-array-set-from-moves Inv-loop μ-loop
-array-set-from-moves c =
-    let here : c .before .before .before .before .before .loop .r - 1 < 31 = omega (arith, c .before .before .before .before .before .loop .inv .1 .1 .1 .0 .small) in
-    here
+array-set-from-moves c = layer-small (c .before .before .before .before)
 
 loop-again : tie.Need-loop-again Inv-loop μ-loop
 loop-again c =

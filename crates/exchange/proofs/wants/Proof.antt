@@ -31,7 +31,8 @@ loop-again c =
     let at = c .before .before .loop in
     let a = c .before .before .before .args in
     let W : ℕ → ℕ → Type 0 = Wanted (a .rule) (a .scores) (a .seats) in
-    (search needs, (simp length-set (at .inv .1 .0), rows-next W (at .g) _ (at .sets) (omega arith) (at .inv .1 .1) (c .wanted-by .ensures)))
+    let next = rows-next W (at .g) _ (at .sets) (omega arith) (at .inv .1 .1) (c .wanted-by .ensures) in
+    (search needs, (simp length-set (at .inv .1 .0), next))
 
 returns : tie.Need-returns Inv-loop μ-loop
 returns c =

@@ -27,7 +27,8 @@ loop-holds c = (search needs, (refl, rows-first (Has (c .args .rows)) 24))
 loop-again : tie.Need-loop-again Inv-loop μ-loop
 loop-again c =
     let at = c .before .before .loop in
-    let next = rows-next (Has (c .before .before .before .args .rows)) (at .w) _ (at .sets) (omega arith) (at .inv .1 .1) (c .column .ensures) in
+    let H : ℕ → ℕ → Type 0 = Has (c .before .before .before .args .rows) in
+    let next = rows-next H (at .w) _ (at .sets) (omega arith) (at .inv .1 .1) (c .column .ensures) in
     (search needs, (simp length-set (at .inv .1 .0), next))
 
 returns : tie.Need-returns Inv-loop μ-loop
