@@ -1,2 +1,3 @@
 -- What the planner answers, and what stands in the output buffer afterwards.
 pub mod Planning
+pub mod Sheets
