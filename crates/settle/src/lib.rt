@@ -88,7 +88,8 @@ pub fn play_route(sheet: Sheet, route: Route) -> Sheet
 
 // An exchange to play: one that improves, and where there is none one that ties wrongly.
 pub fn next(sheet: Sheet, caps: [[u16; 24]; 32], t: Terms) -> Exchange
-    requires { ⌜ Ranged t × Counted t sheet ⌝ }
+    requires { ⌜ Ranged t ⌝ }
+    requires { ⌜ Counted t sheet ⌝ }
     ensures { λ r. ⌜ ((I : Instance) → Told I t caps → Offers I (credit sheet) r) ⌝ }
 {
     let seats = t.seats;
@@ -104,16 +105,18 @@ pub fn next(sheet: Sheet, caps: [[u16; 24]; 32], t: Terms) -> Exchange
 
 // A settled sheet of the same book: free credits are handed out, and exchanges played until none is left.
 pub fn settle(sheet: Sheet, caps: [[u16; 24]; 32], t: Terms) -> Sheet
-    requires { ⌜ Small t caps × Feasible (instanceIn t caps) (credit sheet) ⌝ }
+    requires { ⌜ Small t caps ⌝ }
+    requires { ⌜ Feasible (instanceIn t caps) (credit sheet) ⌝ }
     ensures { λ r. ⌜ ((I : Instance) → Told I t caps → Settled I (credit r)) ⌝ }
 {
     let mut settled = fill_free(sheet, caps, t);
     loop {
         let exchange = next(settled, caps, t);
-        if !exchange.found {
+        if exchange.found {
+            let route = exchange.route;
+            settled = play_route(settled, route);
+        } else {
             return settled;
         }
-        let route = exchange.route;
-        settled = play_route(settled, route);
     }
 }

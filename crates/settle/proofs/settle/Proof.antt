@@ -1,6 +1,4 @@
 -- `settle::settle` meets its contract. Each turn plays one exchange; the measure of the crate `fairness` falls.
-use mathlib.Core.Path.{_≡_}
-use mathlib.Core.Bool.{true, false}
 use Rattle.sheet.specs.Sheets.{credit}
 use Rattle.fairness.proofs.Theorems.{measure}
 use Rattle.terms.specs.Terms.{instanceIn}
@@ -8,7 +6,6 @@ use Rattle.terms.proofs.Told.{told-in, feasible-counted}
 use Rattle.settle.specs.Fill.{Full}
 use Rattle.settle.specs.Offers.{Offers}
 use Rattle.settle.proofs.Turns.{turn-playable, turn-full, turn-less, turn-last}
-use borrow.Author.Needs.{needs}
 use Rattle.settle.proofs.settle.Statement.{statement}
 use Rattle.settle.proofs.settle.Tie as tie
 
@@ -37,34 +34,32 @@ offers : (c : tie.After-next Inv-loop μ-loop) →
     Offers (instanceIn (b .args .t) (b .args .caps)) (credit (c .before .loop .settled)) (c .next .result)
 offers c = let b = c .before .before .before in c .next .ensures _ (told-in (b .args .t) (b .args .caps))
 
--- where there is a route, an exchange was found
-found : (c : tie.After-route Inv-loop μ-loop) → c .before .before .before .next .result .found ≡ true
-found c = search needs
-
-returns : tie.Need-returns Inv-loop μ-loop
-returns c =
-    let n = c .before .before in
-    let b = n .before .before .before in
-    let none : n .next .result .found ≡ false = search needs in
-    turn-last (b .args .t) (b .args .caps) (b .pre .0) _ (n .before .loop .inv) _ (offers n) none
-
 play-route-requires : tie.Need-play-route-requires Inv-loop μ-loop
 play-route-requires c κs =
-    let n = c .before .before .before in
+    let n = c .before .before in
     let b = n .before .before .before in
-    (offers n .counted, turn-playable (b .args .t) (b .args .caps) (b .pre .0) _ (n .before .loop .inv) _ (offers n) (found c))
+    let found = c .before .if1 .taken in
+    (offers n .counted, turn-playable (b .args .t) (b .args .caps) (b .pre .0) _ (n .before .loop .inv) _ (offers n) found)
 
 loop-less : tie.Need-loop-less Inv-loop μ-loop
 loop-less c =
-    let n = c .before .before .before .before in
+    let n = c .before .before .before in
     let b = n .before .before .before in
-    turn-less (b .args .t) (b .args .caps) (b .pre .0) _ (n .before .loop .inv) _ (offers n) (found (c .before)) _ (c .play-route .ensures)
+    let found = c .before .before .if1 .taken in
+    turn-less (b .args .t) (b .args .caps) (b .pre .0) _ (n .before .loop .inv) _ (offers n) found _ (c .play-route .ensures)
 
 loop-again : tie.Need-loop-again Inv-loop μ-loop
 loop-again c =
-    let n = c .before .before .before .before in
+    let n = c .before .before .before in
     let b = n .before .before .before in
-    turn-full (b .args .t) (b .args .caps) (b .pre .0) _ (n .before .loop .inv) _ (offers n) (found (c .before)) _ (c .play-route .ensures)
+    let found = c .before .before .if1 .taken in
+    turn-full (b .args .t) (b .args .caps) (b .pre .0) _ (n .before .loop .inv) _ (offers n) found _ (c .play-route .ensures)
+
+returns : tie.Need-returns Inv-loop μ-loop
+returns c =
+    let n = c .before in
+    let b = n .before .before .before in
+    turn-last (b .args .t) (b .args .caps) (b .pre .0) _ (n .before .loop .inv) _ (offers n) (c .if1 .left)
 
 pub settle-spec : {M : Type 1} → statement M
 settle-spec =
@@ -75,7 +70,7 @@ settle-spec =
     fill-free-requires
     loop-holds
     next-requires
-    returns
     play-route-requires
     loop-less
-    loop-again)
+    loop-again
+    returns)
