@@ -1,5 +1,6 @@
 -- `settle::play_route` meets its contract. Each turn plays one move.
-use Prim.Native.Nat.{_-_, _<_}
+use Prim.Native.Nat.{ℕ, _-_, _<_}
+use mathlib.Core.Path.{ap}
 use native.Mathlib.Omega.{arith}
 use mathlib.Core.List.{map}
 use lib.ListN.{length, take}
@@ -47,7 +48,7 @@ loop-again c =
     let k : l .k < a .route .count = search needs in
     let inside : l .k < length (movesOf (a .route)) = omega (arith, c .before .before .before .before .before .pre .0) in
     next _ _ (l .k) (credit (l .after)) (l .inv) inside _ _ (move-at (a .route .moves) (a .route .count) (l .k) k)
-    _ (c .play .ensures)
+    _ (λ i j. ap (λ (f : ℕ → ℕ → ℕ). f i j) (c .play .ensures))
 
 returns : tie.Need-returns Inv-loop μ-loop
 returns c =
