@@ -1,0 +1,89 @@
+-- What the planner's steps show, from what is read, checked and written. Assumes nothing.
+use mathlib.Core.Path.{_≡_, refl, sym, ap, ap₂, subst, _∙_}
+use mathlib.Core.Bool.{true}
+use mathlib.Core.List.{List, []}
+use mathlib.Core.Option.{Option, none, some}
+use Prim.Native.Nat.{ℕ, _≤_, _<_}
+use native.Mathlib.Omega.{arith}
+use lib.ListN.{length, getD}
+use borrow.Author.Tests.{lt-ltb, le-ltb}
+use Rattle.fairness.specs.Instance.{Instance}
+use Rattle.fairness.specs.Exchange.{Settled}
+use Rattle.model.specs.Lowest.{when}
+use Rattle.model.specs.Book.{Book, Grid, SheetOf, Shaped, cell, seats, windows, instanceOf}
+use Rattle.model.proofs.Agree.{agree-settled}
+use Rattle.dayfile.specs.Bounds.{Fit}
+use Rattle.dayfile.specs.Layout.{bookOf, sheetOf}
+use Rattle.dayfile.specs.File.{fileOf}
+use Rattle.dayfile.specs.Table.{Refusal, refuse, firstOf, line16, readLines, bufferLines, planLines, plannedLength}
+use Rattle.dayfile.specs.Outcome.{answer, unless}
+use Rattle.dayfile.specs.Memory.{Holds, held, sizedGrid, fileIn, front}
+use Rattle.dayfile.specs.declared.Book as Memory
+use Rattle.dayfile.proofs.Lines.{none-holds, stop-in, on-after}
+use Rattle.dayfile.proofs.Tables.{sized-at, sized-row, sized-shaped}
+use Rattle.dayfile.proofs.Held.{held-book}
+use Rattle.dayfile.proofs.Lengths.{planned-length}
+use Rattle.dayfile.proofs.Theorems.{accepted-exactly, accepted-fits}
+use Rattle.planner.specs.Planning.{planFile, Planned}
+
+-- an accepted file's book is in paper 01's ranges
+pub fit-of : (f : List ℕ) → firstOf (readLines f) ≡ none → Fit (bookOf f)
+fit-of f free = accepted-fits f (bookOf f) (sheetOf f) (accepted-exactly f .1 (none-holds (readLines f) free)) .0
+
+-- ---- the check
+
+pub refused-early : (f : List ℕ) (room : ℕ) (q : Refusal) → firstOf (readLines f) ≡ some q → some q ≡ firstOf (planLines f room)
+unfolding planLines
+refused-early f room q e = sym (stop-in (readLines f) _ q e)
+
+module _ (f : List ℕ) (room need : ℕ) (free : firstOf (readLines f) ≡ none) (need-is : need ≡ plannedLength (bookOf f)) where
+  lines-end : firstOf (planLines f room) ≡ firstOf (bufferLines room need)
+  unfolding planLines
+  lines-end =
+      on-after (readLines f) (bufferLines room (plannedLength (bookOf f))) free
+      ∙ ap (λ (n : ℕ). firstOf (bufferLines room n)) (sym need-is)
+
+  pub refused-short : room < need → some (refuse 16 need) ≡ firstOf (planLines f room)
+  unfolding bufferLines line16
+  refused-short l = sym (lines-end ∙ rw (lt-ltb room need l) refl)
+
+  pub long-enough : need ≤ room → none ≡ firstOf (planLines f room)
+  unfolding bufferLines line16
+  long-enough l = sym (lines-end ∙ rw (le-ltb room need l) refl)
+
+-- ---- what is planned and written
+
+module _ (b : Book) (m : Memory.Book) (fit : Fit b) (holds : Holds b m) where
+  -- the used cells of a grid in memory
+  used : Grid → Grid
+  used g = sizedGrid (m .seats) (m .windows) g
+
+  used-sheet : (g : Grid) → SheetOf b (used g)
+  unfolding used
+  used-sheet g = rw (← holds .seats-are, ← holds .windows-are) (sized-shaped (m .seats) (m .windows) g)
+
+  used-cell : (g : Grid) (i j : ℕ) → i < seats b → j < windows b → cell g i j ≡ cell (used g) i j
+  unfolding used
+  used-cell g i j li lj =
+      sym (ap (λ (r : List ℕ). getD r j 0) (sized-row (m .seats) (m .windows) g i (omega (arith, holds .seats-are)))
+      ∙ sized-at (m .windows) (getD g i []) j (omega (arith, holds .windows-are)))
+
+  the-file : (caps g : Grid) → caps ≡ held (b .caps) → fileIn m caps true g ≡ fileOf b (some (used g))
+  unfolding fileIn used
+  the-file caps g e = ap (λ (x : Book). fileOf x (some (sizedGrid (m .seats) (m .windows) g))) (held-book b m fit holds caps e)
+
+  -- the length does not hang on the cells
+  pub need-is : (caps g : Grid) → caps ≡ held (b .caps) → length (fileIn m caps true g) ≡ plannedLength b
+  need-is caps g e = ap length (the-file caps g e) ∙ planned-length b (used g) (fit .cap-shape) (used-sheet g)
+
+  -- a settled grid makes a planned file
+  pub planned-is : (caps g : Grid) → caps ≡ held (b .caps) → Settled (instanceOf b) (cell g) →
+      (old new : List ℕ) → new ≡ front (fileIn m caps true g) old → Planned b old new
+  unfolding instanceOf
+  planned-is caps g e settled old new w =
+      record {
+        sheet = used g;
+        a-sheet = used-sheet g;
+        settled = agree-settled (instanceOf b) (cell g) (cell (used g)) (used-cell g) settled;
+        bytes = w ∙ ap (λ (file : List ℕ). front file old) (the-file caps g e);
+      }
