@@ -1,11 +1,11 @@
 -- Free credits handed out: a loop over the seats of one window, and a loop over the windows.
-use mathlib.Core.Path.{_≡_, refl, ap, sym, _∙_}
+use mathlib.Core.Path.{_≡_, refl, ap, _∙_}
 use mathlib.Core.Logic.{_≢_}
 use Prim.Native.Nat.{ℕ, zero, suc, min, _+_, _-_, _≤_, _<_}
 use native.Mathlib.Decide.{ℕ-discrete}
 use native.Mathlib.Omega.{arith}
 use Rattle.fairness.specs.Sums.{sum}
-use Rattle.fairness.specs.Instance.{Instance, Sheet, Feasible, Wasteful, placed}
+use Rattle.fairness.specs.Instance.{Instance, Sheet, Feasible, placed}
 use Rattle.fairness.proofs.Sums.{sum-suc, sum-eq}
 use Rattle.sheet.specs.Sheets.{Written}
 use Rattle.model.specs.Book.{Grid}

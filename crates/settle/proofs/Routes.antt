@@ -8,7 +8,7 @@ use native.Mathlib.Omega.{arith}
 use lib.ListN.{length, getD, take, drop, length-map, length-take, List·getD-map, drop-of-length-le}
 use lib.Seq.{drop-cons, getD-take}
 use Rattle.fairness.specs.Instance.{Instance, Sheet}
-use Rattle.fairness.specs.Exchange.{Move, Possible, play, playAll, PlaysOut}
+use Rattle.fairness.specs.Exchange.{Move, play, playAll, PlaysOut}
 use Rattle.sheet.specs.declared.Move as memory
 use Rattle.sheet.specs.Sheets.{moveOf, Playable}
 use Rattle.sheet.proofs.Moves.{playable}

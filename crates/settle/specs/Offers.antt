@@ -2,7 +2,6 @@
 use mathlib.Core.Path.{_≡_}
 use mathlib.Core.Bool.{true, false}
 use mathlib.Core.Logic.{_⊎_}
-use Prim.Native.Nat.{ℕ}
 use lib.ListN.{length}
 use Rattle.fairness.specs.Instance.{Instance, Sheet}
 use Rattle.fairness.specs.Exchange.{Path, improvesAt, tiesAt, Improvable, Tied}

@@ -1,15 +1,16 @@
 -- A loop that adds up cells of 16 bits.
 use mathlib.Core.Path.{_≡_, sym, ap}
 use Prim.Native.Nat.{ℕ, zero, suc, _+_, _*_, _≤_, _<_}
+use native.Mathlib.Nat.{mul-suc}
 use native.Mathlib.Numerals.{add-one}
 use native.Mathlib.Omega.{arith}
 use Rattle.fairness.specs.Sums.{sum}
 use Rattle.fairness.proofs.Sums.{sum-zero, sum-suc}
 
--- cells below 2 ^ 16 add up to no more than 65535 each
-pub sum-small : (n : ℕ) (f : ℕ → ℕ) → ((i : ℕ) → f i < 65536) → sum n f ≤ 65535 * n
-sum-small zero f h = omega (arith, sum-zero f)
-sum-small (suc n) f h = omega (arith, sum-suc n f, h n, sum-small n f h)
+-- n cells up to b add up to no more than b each
+pub sum-bound : (b n : ℕ) (f : ℕ → ℕ) → ((i : ℕ) → i < n → f i ≤ b) → sum n f ≤ b * n
+sum-bound b zero f h = omega (arith, sum-zero f)
+sum-bound b (suc n) f h = omega (arith, sum-suc n f, mul-suc b n, h n (omega arith), sum-bound b n f (λ i l. h i (omega arith)))
 
 -- t is the sum of the first k of n cells
 pub record Summed (f : ℕ → ℕ) (n k t : ℕ) : Type 0 where

@@ -1,27 +1,22 @@
 -- A loop that works out each seat's height.
-use mathlib.Core.Path.{_≡_, refl, ap, sym, _∙_}
+use mathlib.Core.Path.{_≡_, ap, _∙_}
 use mathlib.Core.List.{List}
-use Prim.Native.Nat.{ℕ, zero, suc, _+_, _*_, _≤_, _<_}
+use Prim.Native.Nat.{ℕ, _+_, _≤_, _<_}
 use native.Mathlib.Decide.{ℕ-discrete}
 use native.Mathlib.Omega.{arith}
 use lib.ListN.{length, getD, set, length-set}
 use lib.Seq.{getD-set-same, getD-set-other}
 use Rattle.fairness.specs.Sums.{sum}
-use Rattle.fairness.specs.Instance.{Instance, total, height}
-use Rattle.fairness.specs.Numbers.{Moderate}
-use Rattle.fairness.proofs.Sums.{sum-zero, sum-suc, sum-eq}
+use Rattle.fairness.specs.Instance.{Instance}
+use Rattle.fairness.proofs.Sums.{sum-eq}
 use Rattle.model.specs.Book.{Grid}
 use Rattle.sheet.specs.declared.Sheet.{Sheet}
 use Rattle.sheet.specs.Sheets.{credit}
+use Rattle.sheet.proofs.Sums.{sum-bound}
 use Rattle.exchange.specs.declared.Scores.{Scores}
 use Rattle.exchange.specs.Held.{Scored, Bounded}
 use Rattle.terms.specs.declared.Terms.{Terms}
 use Rattle.terms.specs.Terms.{Told, Ranged, Shows, Counted}
-
--- cells up to 4,095 add up to no more than that each
-sum-counted : (n : ℕ) (f : ℕ → ℕ) → ((i : ℕ) → i < n → f i ≤ 4095) → sum n f ≤ 4095 * n
-sum-counted zero f h = omega (arith, sum-zero f)
-sum-counted (suc n) f h = omega (arith, sum-suc n f, h n (omega arith), sum-counted n f (λ i l. h i (omega arith)))
 
 module _ (sheet : Sheet) (seats windows : ℕ) (bases : List ℕ) where
   -- what seat i's height is to be
@@ -65,7 +60,7 @@ module _ (sheet : Sheet) (t : Terms) (k : ℕ) (hs : List ℕ) (l : t .seats ≤
   pub bounded : Ranged t → Counted t sheet → Bounded (t .seats) scores
   bounded r small i li = record {
     height-most =
-        let most = sum-counted (t .windows) (λ j. credit sheet i j) (λ j lj. small i j li lj) in
+        let most = sum-bound 4095 (t .windows) (λ j. credit sheet i j) (λ j lj. small i j li lj) in
         omega (arith, known .done i (omega arith), r .bases-most i li, r .windows-most);
     weight-least = r .weights-least i li;
     weight-most = r .weights-most i li;

@@ -1,6 +1,6 @@
 -- An instance that the numbers in memory tell: what is known of it, and that any two of them are alike.
-use mathlib.Core.Path.{_≡_, refl, sym, _∙_}
-use Prim.Native.Nat.{ℕ, _≤_, _<_}
+use mathlib.Core.Path.{refl, sym}
+use Prim.Native.Nat.{ℕ}
 use native.Mathlib.Nat.{le-trans}
 use native.Mathlib.Omega.{arith}
 use Rattle.fairness.specs.Instance.{Instance, Proper, Feasible, Wasteful}

@@ -1,9 +1,7 @@
 // The numbers of a book that the search for exchange paths and the planner look at.
-ghost use mathlib.Core.Path.{_≡_};
-ghost use Prim.Native.Nat.{ℕ, _≤_, _<_};
+ghost use Prim.Native.Nat.{ℕ};
 ghost use Rattle.fairness.specs.Instance.{Instance};
 ghost use Rattle.model.specs.Book.{Grid};
-ghost use Rattle.sheet.specs.Sheets.{credit};
 ghost use Rattle.exchange.specs.Held.{Scored, Bounded};
 ghost use Rattle.terms.specs.Terms.{Told, Ranged, Shows, Counted};
 use exchange::Scores;

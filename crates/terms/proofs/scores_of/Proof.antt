@@ -4,7 +4,7 @@ use native.Mathlib.Omega.{arith}
 use mathlib.Core.Path.{refl}
 use Rattle.sheet.specs.Sheets.{credit}
 use Rattle.sheet.proofs.Shapes.{credit-small}
-use Rattle.sheet.proofs.Sums.{sum-small}
+use Rattle.sheet.proofs.Sums.{sum-bound}
 use Rattle.terms.proofs.Heights.{Known, first, next, scored, bounded}
 use borrow.Author.Needs.{needs}
 use Rattle.terms.proofs.scores_of.Statement.{statement}
@@ -24,7 +24,8 @@ add-heights c =
     let b = c .before .before .before .before .before .before in
     let a = b .args in
     let i = c .before .before .loop .i in
-    let cells = sum-small (a .t .windows) (λ j. credit (a .sheet) i j) (λ j. credit-small (a .sheet) _ (b .good .0) i j) in
+    let small = credit-small (a .sheet) _ (b .good .0) i in
+    let cells = sum-bound 65535 (a .t .windows) (λ j. credit (a .sheet) i j) (λ j lj. omega (arith, small j)) in
     let base = b .pre .bases-most i (search needs) in
     omega (arith, cells, base, c .total .ensures, b .pre .windows-most)
 
