@@ -2,3 +2,4 @@
 pub mod Columns
 pub mod Shifts
 pub mod Filling
+pub mod Products

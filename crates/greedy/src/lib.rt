@@ -32,7 +32,7 @@ fn even_out(
     let mut givers = sides::givers(&g, seats, windows, unit);
     let mut heights = sides::heights(&g, bases, seats, windows);
     let mut active = full(seats);
-    for _ in 0..4096 {
+    for _ in 0..4096u32 {
         if active == 0 {
             return g;
         }

@@ -66,7 +66,7 @@ pub fn lowest_receiver(heights: &[u32; 32], weights: &[u32; 32], set: u32) -> us
 {
     let mut best = lowest(set);
     let mut rest = set;
-    for _ in 0..32 {
+    for _ in 0..32u32 {
         if rest == 0 {
             return best;
         }
@@ -86,7 +86,7 @@ pub fn highest_donor(heights: &[u32; 32], weights: &[u32; 32], set: u32, seat: u
 {
     let mut best = seat;
     let mut rest = set;
-    for _ in 0..32 {
+    for _ in 0..32u32 {
         if rest == 0 {
             return best;
         }
@@ -104,7 +104,8 @@ pub fn highest_donor(heights: &[u32; 32], weights: &[u32; 32], set: u32, seat: u
 // goes first. Never more than a cell can hold.
 pub fn wanted(receiver: Credit, donor: Credit) -> u16 {
     let gap = times(donor.height, receiver.weight) + donor.weight as u64;
-    let level = times(receiver.height, donor.weight) + if breaks_tie(receiver, donor) { 0 } else { 1 };
+    let level = times(receiver.height, donor.weight);
+    let level = if breaks_tie(receiver, donor) { level } else { level + 1 };
     if gap <= level {
         return 0;
     }

@@ -51,7 +51,7 @@ pub fn narrow(grid: &[[u16; 24]; 32], caps: &[[u16; 24]; 32], tree: Tree, receiv
 {
     let mut giver = donor;
     let mut most = amount;
-    for _ in 0..32 {
+    for _ in 0..32u32 {
         if giver == receiver {
             return most;
         }
@@ -80,7 +80,7 @@ pub fn push(
     ensures { λ _. ⌜ Keeps seats windows (now (caps .entry)) (now (grid .entry)) (now (grid .exit)) ⌝ }
 {
     let mut giver = donor;
-    for _ in 0..32 {
+    for _ in 0..32u32 {
         if giver == receiver {
             return;
         }

@@ -34,7 +34,7 @@ pub fn reach(takers: &[u32; 32], givers: &[u32; 32], windows: usize, receiver: u
     let mut found = 0;
     let mut window = 0;
     let mut taker = 0;
-    for _ in 0..700 {
+    for _ in 0..700u32 {
         if found != 0 {
             let i = lowest(found);
             found = remove_lowest(found);

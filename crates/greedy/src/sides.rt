@@ -1,6 +1,7 @@
 // Who can take and who can give in each window, and how high each seat stands. Only room for `unit` credits counts, and only `unit`
 // credits held.
-ghost use Prim.Native.Nat.{_≤_, _<_};
+ghost use Prim.Native.Nat.{ℕ, _≤_, _<_};
+ghost use lib.ListN.{getD};
 use masks::insert;
 use masks::remove;
 use crate::cells::room;
@@ -73,7 +74,7 @@ pub fn renew(
     requires { ⌜ donor < 32 ⌝ }
 {
     let mut giver = donor;
-    for _ in 0..32 {
+    for _ in 0..32u32 {
         if giver == receiver {
             return;
         }
@@ -97,6 +98,7 @@ pub fn height(base: u32, row: [u16; 24], windows: usize) -> u32
 
 pub fn heights(grid: &[[u16; 24]; 32], bases: &[u32; 32], seats: usize, windows: usize) -> [u32; 32]
     requires { ⌜ (seats ≤ 32) × (windows ≤ 24) ⌝ }
+    requires { ⌜ ((i : ℕ) → getD (now bases) i 0 ≤ 50000) ⌝ }
 {
     let mut all = [0u32; 32];
     for i in 0..seats {
