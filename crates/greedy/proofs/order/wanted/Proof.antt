@@ -1,3 +1,5 @@
+use native.Mathlib.Omega.{arith}
+use Rattle.greedy.proofs.Products.{some-weight}
 use borrow.Author.Needs.{needs}
 use Rattle.greedy.proofs.order.wanted.Statement.{statement}
 use Rattle.greedy.proofs.order.wanted.Tie as tie
@@ -52,7 +54,9 @@ add-n c = search needs
 
 -- src/order.rt:112:13
 div-n : tie.Need-div-n
-div-n c = search needs
+div-n c =
+    let a = c .before .before .before .before .before .before .before .before .before .args in
+    some-weight (a .donor .height) (a .receiver .weight) (a .donor .weight) (omega arith)
 
 -- src/order.rt:113:19
 cast-result : tie.Need-cast-result

@@ -1,4 +1,5 @@
 use borrow.Author.Needs.{needs}
+use Prim.Native.Nat.{_-_, _≤_}
 use Rattle.greedy.proofs.sides.takers.Statement.{statement}
 use Rattle.greedy.proofs.sides.takers.Tie as tie
 use Rattle.greedy.proofs.sides.takers.Reads as reads
@@ -6,10 +7,10 @@ use Rattle.greedy.proofs.sides.takers.Lts as lts
 use Rattle.greedy.proofs.sides.takers_in.Reads as takers-in-reads
 
 abbrev Inv-loop : tie.InvT-loop
-Inv-loop grid caps seats windows unit sets₀ w₀ sets w = ?
+Inv-loop grid caps seats windows unit sets₀ w₀ sets w = w ≤ windows
 
 abbrev μ-loop : tie.MeasureT-loop
-μ-loop grid caps seats windows unit sets₀ w₀ sets w = ?
+μ-loop grid caps seats windows unit sets₀ w₀ sets w = windows - w
 
 -- src/sides.rt:40:5
 loop-holds : tie.Need-loop-holds Inv-loop μ-loop
