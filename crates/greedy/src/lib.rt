@@ -1,7 +1,6 @@
 // The planner's fast part: from a book to a sheet that is feasible and not wasteful, which is what is proved, and nearly always settled
 // already, which is not: whoever promises that looks for exchange paths again.
-ghost use Prim.Native.Nat.{ℕ, _≤_, _<_};
-ghost use lib.ListN.{getD};
+ghost use Prim.Native.Nat.{_≤_};
 ghost use Rattle.greedy.specs.Starts.{Keeps, Started};
 mod cells;
 mod fill;
@@ -11,7 +10,6 @@ mod search;
 mod sides;
 use masks::full;
 use masks::minus;
-use push::choose;
 
 // Evens out the seats by exchanges of at least `unit` credits: the lowest receiver takes from the highest donor that it reaches. Where
 // that one has too little to give, none that is reached takes part any more. With 1 for `unit` the end is settled if the turns suffice.
@@ -36,19 +34,11 @@ fn even_out(
         if active == 0 {
             return g;
         }
-        let c = choose(&heights, weights, &takers, &givers, windows, active);
-        let receiver = c.receiver;
-        let donor = c.donor;
-        let tree = c.tree;
-        if c.amount < unit {
-            active = minus(active, tree.set);
-        } else {
-            let most = push::narrow(&g, caps, tree, receiver, donor, c.amount);
-            push::push(&mut g, caps, seats, windows, tree, receiver, donor, most);
-            sides::renew(&mut takers, &mut givers, &g, caps, tree, receiver, donor, unit);
-            heights[receiver] = sides::height(bases[receiver], g[receiver], windows);
-            heights[donor] = sides::height(bases[donor], g[donor], windows);
-        }
+        let e = push::choose(&heights, weights, &takers, &givers, windows, active, unit);
+        push::push(&mut g, caps, seats, windows, e);
+        sides::renew(&mut takers, &mut givers, &g, caps, e, unit);
+        sides::measure(&mut heights, &g, bases, windows, e);
+        active = minus(active, e.done);
     }
     g
 }
@@ -62,7 +52,6 @@ pub fn start(
     bases: [u32; 32],
 ) -> [[u16; 24]; 32]
     requires { ⌜ (seats ≤ 32) × (windows ≤ 24) ⌝ }
-    requires { ⌜ ((i : ℕ) → getD bases i 0 ≤ 50000) ⌝ }
     ensures { λ r. ⌜ Started seats windows caps supplies r ⌝ }
 {
     let first = fill::fill(&caps, supplies, seats, windows);

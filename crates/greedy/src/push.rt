@@ -1,8 +1,6 @@
 // Credits pushed along exchange paths, many at a time.
 ghost use Prim.Native.Nat.{_≤_, _<_};
 ghost use Rattle.greedy.specs.Starts.{Keeps};
-use masks::full;
-use masks::minus;
 use crate::cells::least;
 use crate::cells::room;
 use crate::cells::shift;
@@ -13,15 +11,17 @@ use crate::order::wanted;
 use crate::search::reach;
 use crate::search::Tree;
 
-// A receiver, the paths from it, a donor, and how many credits the two would exchange.
-pub struct Choice {
+// A receiver, a donor, the shortest paths from the receiver, how many credits the two would exchange, and who is done.
+pub struct Exchange {
     pub receiver: usize,
-    pub tree: Tree,
     pub donor: usize,
+    pub tree: Tree,
     pub amount: u16,
+    pub done: u32,
 }
 
-// The lowest receiver of a set and the highest donor that it reaches.
+// The lowest receiver of a set, and the highest donor that it reaches. Where these would exchange less than `unit` they exchange
+// nothing, and all that are reached are done: every other receiver stands higher.
 pub fn choose(
     heights: &[u32; 32],
     weights: &[u32; 32],
@@ -29,7 +29,8 @@ pub fn choose(
     givers: &[u32; 32],
     windows: usize,
     set: u32,
-) -> Choice
+    unit: u16,
+) -> Exchange
     requires { ⌜ (windows ≤ 24) × (0 < set) ⌝ }
     ensures { λ r. ⌜ (r .receiver < 32) × (r .donor < 32) ⌝ }
 {
@@ -37,22 +38,33 @@ pub fn choose(
     let tree = reach(takers, givers, windows, receiver);
     let donor = highest_donor(heights, weights, tree.set, receiver);
     let amount = wanted(next_credit(heights, weights, receiver), next_credit(heights, weights, donor));
-    Choice {
+    if amount < unit {
+        return Exchange {
+            receiver,
+            donor,
+            tree,
+            amount: 0,
+            done: tree.set,
+        };
+    }
+    Exchange {
         receiver,
-        tree,
         donor,
+        tree,
         amount,
+        done: 0,
     }
 }
 
 // As many of the credits as every step of the path lets through.
-pub fn narrow(grid: &[[u16; 24]; 32], caps: &[[u16; 24]; 32], tree: Tree, receiver: usize, donor: usize, amount: u16) -> u16
-    requires { ⌜ donor < 32 ⌝ }
+fn narrow(grid: &[[u16; 24]; 32], caps: &[[u16; 24]; 32], e: Exchange) -> u16
+    requires { ⌜ e .donor < 32 ⌝ }
 {
-    let mut giver = donor;
-    let mut most = amount;
+    let tree = e.tree;
+    let mut giver = e.donor;
+    let mut most = e.amount;
     for _ in 0..32u32 {
-        if giver == receiver {
+        if giver == e.receiver {
             return most;
         }
         let step = tree.step(giver);
@@ -64,24 +76,17 @@ pub fn narrow(grid: &[[u16; 24]; 32], caps: &[[u16; 24]; 32], tree: Tree, receiv
     0
 }
 
-// Moves credits along the path from a receiver to a donor.
-pub fn push(
-    grid: &mut [[u16; 24]; 32],
-    caps: &[[u16; 24]; 32],
-    seats: usize,
-    windows: usize,
-    tree: Tree,
-    receiver: usize,
-    donor: usize,
-    amount: u16,
-)
+// Moves so many credits along the path, the donor's step first.
+pub fn push(grid: &mut [[u16; 24]; 32], caps: &[[u16; 24]; 32], seats: usize, windows: usize, e: Exchange)
     requires { ⌜ (seats ≤ 32) × (windows ≤ 24) ⌝ }
-    requires { ⌜ donor < 32 ⌝ }
+    requires { ⌜ e .donor < 32 ⌝ }
     ensures { λ _. ⌜ Keeps seats windows (now (caps .entry)) (now (grid .entry)) (now (grid .exit)) ⌝ }
 {
-    let mut giver = donor;
+    let amount = narrow(grid, caps, e);
+    let tree = e.tree;
+    let mut giver = e.donor;
     for _ in 0..32u32 {
-        if giver == receiver {
+        if giver == e.receiver {
             return;
         }
         let step = tree.step(giver);

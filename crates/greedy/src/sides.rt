@@ -1,11 +1,10 @@
 // Who can take and who can give in each window, and how high each seat stands. Only room for `unit` credits counts, and only `unit`
 // credits held.
-ghost use Prim.Native.Nat.{ℕ, _≤_, _<_};
-ghost use lib.ListN.{getD};
+ghost use Prim.Native.Nat.{_≤_, _<_};
 use masks::insert;
 use masks::remove;
 use crate::cells::room;
-use crate::search::Tree;
+use crate::push::Exchange;
 
 // The seats that have room in a window.
 fn takers_in(grid: &[[u16; 24]; 32], caps: &[[u16; 24]; 32], seats: usize, window: usize, unit: u16) -> u32
@@ -60,22 +59,21 @@ fn with(set: u32, seat: usize, on: bool) -> u32
     if on { insert(set, seat) } else { remove(set, seat) }
 }
 
-// Notes anew who can take and who can give along the path from a receiver to a donor.
+// Notes anew who can take and who can give along the path of an exchange.
 pub fn renew(
     takers: &mut [u32; 32],
     givers: &mut [u32; 32],
     grid: &[[u16; 24]; 32],
     caps: &[[u16; 24]; 32],
-    tree: Tree,
-    receiver: usize,
-    donor: usize,
+    e: Exchange,
     unit: u16,
 )
-    requires { ⌜ donor < 32 ⌝ }
+    requires { ⌜ e .donor < 32 ⌝ }
 {
-    let mut giver = donor;
+    let tree = e.tree;
+    let mut giver = e.donor;
     for _ in 0..32u32 {
-        if giver == receiver {
+        if giver == e.receiver {
             return;
         }
         let step = tree.step(giver);
@@ -89,20 +87,29 @@ pub fn renew(
     }
 }
 
-// What a seat's level goes by: its base and its total.
+// What a seat's level goes by: its base and its total. A book's never wrap.
 pub fn height(base: u32, row: [u16; 24], windows: usize) -> u32
-    requires { ⌜ (base ≤ 50000) × (windows ≤ 24) ⌝ }
+    requires { ⌜ windows ≤ 24 ⌝ }
 {
-    base + sheet::row_total(row, windows)
+    std::num::wrapping_add_u32(base, sheet::row_total(row, windows))
 }
 
 pub fn heights(grid: &[[u16; 24]; 32], bases: &[u32; 32], seats: usize, windows: usize) -> [u32; 32]
     requires { ⌜ (seats ≤ 32) × (windows ≤ 24) ⌝ }
-    requires { ⌜ ((i : ℕ) → getD (now bases) i 0 ≤ 50000) ⌝ }
 {
     let mut all = [0u32; 32];
     for i in 0..seats {
         all[i] = height(bases[i], grid[i], windows);
     }
     all
+}
+
+// Notes the two seats' heights anew.
+pub fn measure(heights: &mut [u32; 32], grid: &[[u16; 24]; 32], bases: &[u32; 32], windows: usize, e: Exchange)
+    requires { ⌜ (windows ≤ 24) × ((e .receiver < 32) × (e .donor < 32)) ⌝ }
+{
+    let r = e.receiver;
+    let d = e.donor;
+    heights[r] = height(bases[r], grid[r], windows);
+    heights[d] = height(bases[d], grid[d], windows);
 }

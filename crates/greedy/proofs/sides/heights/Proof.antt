@@ -35,9 +35,7 @@ element-copy-out-height-2 c = search needs
 
 -- src/sides.rt:103:18
 height-requires : tie.Need-height-requires Inv-loop μ-loop
-height-requires c κs =
-    let b = c .before .before .before in
-    (b .before .pre .1 (b .loop .i), b .before .pre .0 .1)
+height-requires c κs = search needs
 
 -- src/sides.rt:103:9
 mul-all : tie.Need-mul-all Inv-loop μ-loop

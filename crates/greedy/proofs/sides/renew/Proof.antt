@@ -1,6 +1,5 @@
 use borrow.Author.Needs.{needs}
-use Prim.Native.Nat.{ℕ, _-_, _≤_, _<_}
-use native.Mathlib.Omega.{arith}
+use Prim.Native.Nat.{_-_, _≤_, _<_}
 use Rattle.greedy.proofs.sides.renew.Statement.{statement}
 use Rattle.greedy.proofs.sides.renew.Tie as tie
 use Rattle.greedy.proofs.sides.renew.Reads as reads
@@ -10,10 +9,10 @@ use Rattle.greedy.proofs.search.Tree.step.Reads as step-reads
 use Rattle.greedy.proofs.sides.with.Reads as with-reads
 
 abbrev Inv-loop : tie.InvT-loop
-Inv-loop takers₀ givers₀ grid caps tree receiver donor unit giver₀ counter₀ takers givers giver counter = (counter ≤ 32) × (giver < 32)
+Inv-loop takers₀ givers₀ grid caps e unit tree giver₀ counter₀ takers givers giver counter = (counter ≤ 32) × (giver < 32)
 
 abbrev μ-loop : tie.MeasureT-loop
-μ-loop takers₀ givers₀ grid caps tree receiver donor unit giver₀ counter₀ takers givers giver counter = 32 - counter
+μ-loop takers₀ givers₀ grid caps e unit tree giver₀ counter₀ takers givers giver counter = 32 - counter
 
 -- src/sides.rt:76:5
 loop-holds : tie.Need-loop-holds Inv-loop μ-loop
@@ -191,7 +190,7 @@ loop-less c = search needs
 loop-again : tie.Need-loop-again Inv-loop μ-loop
 loop-again c = search needs
 
--- src/sides.rt:63:1
+-- src/sides.rt:64:1
 returns-2 : tie.Need-returns-2 Inv-loop μ-loop
 returns-2 c = search needs
 
