@@ -1,4 +1,6 @@
 use borrow.Author.Needs.{needs}
+use Prim.Native.Nat.{_-_, _≤_, _<_}
+use Rattle.greedy.specs.Starts.{Keeps}
 use Rattle.greedy.proofs.even_out.Statement.{statement}
 use Rattle.greedy.proofs.even_out.Tie as tie
 use Rattle.greedy.proofs.even_out.Reads as reads
@@ -15,11 +17,11 @@ use Rattle.masks.proofs.minus.Reads as minus-reads
 
 abbrev Inv-loop : tie.InvT-loop
 Inv-loop caps seats windows weights bases unit g₀ takers₀ givers₀ heights₀ active₀ counter₀ g takers givers heights active counter =
-    ?
+    (counter ≤ 4096) × Keeps seats windows caps g₀ g
 
 abbrev μ-loop : tie.MeasureT-loop
 μ-loop caps seats windows weights bases unit g₀ takers₀ givers₀ heights₀ active₀ counter₀ g takers givers heights active counter =
-    ?
+    4096 - counter
 
 -- src/lib.rt:29:22
 takers-requires : tie.Need-takers-requires Inv-loop μ-loop
@@ -43,7 +45,7 @@ loop-holds c = search needs
 
 -- src/lib.rt:35:13
 returns : tie.Need-returns Inv-loop μ-loop
-returns c = search needs
+returns c = c .before .before .loop .inv .1
 
 -- src/lib.rt:37:13
 choose-requires : tie.Need-choose-requires Inv-loop μ-loop
@@ -51,7 +53,9 @@ choose-requires c κs = search needs
 
 -- src/lib.rt:38:9
 push-requires : tie.Need-push-requires Inv-loop μ-loop
-push-requires c κs = search needs
+push-requires c κs =
+    let b = c .before .before .before .before .before .before .before in
+    (b .before .before .before .before .before .before .before .before .pre, c .before .choose .ensures .1)
 
 -- src/lib.rt:39:9
 renew-requires : tie.Need-renew-requires Inv-loop μ-loop
@@ -59,7 +63,10 @@ renew-requires c κs = search needs
 
 -- src/lib.rt:40:9
 measure-requires : tie.Need-measure-requires Inv-loop μ-loop
-measure-requires c κs = search needs
+measure-requires c κs =
+    let b = c .before .before .before .before .before .before .before .before in
+    let a = b .before .before .before .before .before .before .before .before .before .before .before .before .before .before in
+    (a .pre .1, b .choose .ensures)
 
 -- src/lib.rt:41:9
 minus-requires : tie.Need-minus-requires Inv-loop μ-loop
@@ -75,11 +82,14 @@ loop-less c = search needs
 
 -- src/lib.rt:33:5
 loop-again : tie.Need-loop-again Inv-loop μ-loop
-loop-again c = search needs
+loop-again c =
+    let b = c .before .before .before .before .before .before .before .before in
+    let l = b .before .before .before .before .before .before .before .before .loop in
+    (search needs, λ supplies f. b .push .ensures supplies (l .inv .1 supplies f))
 
 -- src/lib.rt:16:1
 returns-2 : tie.Need-returns-2 Inv-loop μ-loop
-returns-2 c = search needs
+returns-2 c = c .before .loop .inv .1
 
 pub even-out-spec : {M : Type 1} → statement M
 even-out-spec =
