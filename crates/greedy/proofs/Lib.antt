@@ -3,3 +3,4 @@ pub mod Columns
 pub mod Shifts
 pub mod Filling
 pub mod Products
+pub mod Starting

@@ -1,3 +1,4 @@
+use Rattle.greedy.proofs.Starting.{started}
 use borrow.Author.Needs.{needs}
 use Rattle.greedy.proofs.start.Statement.{statement}
 use Rattle.greedy.proofs.start.Tie as tie
@@ -20,7 +21,11 @@ even-out-requires-2 c κs = search needs
 
 -- src/lib.rt:46:1
 returns : tie.Need-returns
-returns c = search needs
+returns c =
+    let first = c .before .before .before .before in
+    let b = first .before .before .before .before in
+    let f = first .even-out .ensures _ (b .fill .ensures) in
+    started _ _ _ _ _ (c .even-out2 .ensures _ f)
 
 pub start-spec : {M : Type 1} → statement M
 start-spec = tie.close (tie.spec fill-requires even-out-requires even-out-requires-2 returns)
