@@ -7,7 +7,7 @@ use Prim.Native.Nat.{ℕ, _≤_, _<_}
 use native.Mathlib.Omega.{arith}
 use lib.ListN.{length, getD}
 use borrow.Author.Tests.{lt-ltb, le-ltb}
-use Rattle.fairness.specs.Instance.{Instance}
+use Rattle.fairness.specs.Instance.{Instance, Feasible}
 use Rattle.fairness.specs.Exchange.{Settled}
 use Rattle.model.specs.Lowest.{when}
 use Rattle.model.specs.Book.{Book, Grid, SheetOf, Shaped, cell, seats, windows, instanceOf}
@@ -24,6 +24,12 @@ use Rattle.dayfile.proofs.Tables.{sized-at, sized-row, sized-shaped}
 use Rattle.dayfile.proofs.Held.{held-book}
 use Rattle.dayfile.proofs.Lengths.{planned-length}
 use Rattle.dayfile.proofs.Theorems.{accepted-exactly, accepted-fits}
+use Rattle.sheet.specs.declared.Sheet.{Sheet}
+use Rattle.sheet.specs.Sheets.{credit, gridOf}
+use Rattle.sheet.proofs.Cells.{credit-is}
+use Rattle.terms.specs.declared.Terms.{Terms}
+use Rattle.terms.specs.Terms.{instanceIn, Told, Ranged, Small}
+use Rattle.greedy.specs.Starts.{Started}
 use Rattle.planner.specs.Planning.{planFile, Planned}
 
 -- an accepted file's book is in paper 01's ranges
@@ -87,3 +93,26 @@ module _ (b : Book) (m : Memory.Book) (fit : Fit b) (holds : Holds b m) where
         settled = agree-settled (instanceOf b) (cell g) (cell (used g)) (used-cell g) settled;
         bytes = w ∙ ap (λ (file : List ℕ). front file old) (the-file caps g e);
       }
+
+-- ---- the sheet that settling starts from
+
+-- caps in memory are no more than 4,095
+pub small-caps : (b : Book) (t : Terms) (caps : Grid) → Fit b → Told (instanceOf b) t caps → Ranged t → Small t caps
+unfolding instanceOf
+small-caps b t caps fit told ranged =
+    record {
+      ranged = ranged;
+      caps-most = λ i j li lj.
+          omega (arith, told .caps-are i j li lj, fit .cap-high i j (omega (arith, told .seats-are)) (omega (arith, told .windows-are)));
+    }
+
+-- the start is feasible, as the instance that is in memory sees it
+pub start-feasible : (t : Terms) (caps start : Grid) (sheet : Sheet) → Started (t .seats) (t .windows) caps (t .supplies) start →
+    gridOf sheet ≡ start → Feasible (instanceIn t caps) (credit sheet)
+start-feasible t caps start sheet started same =
+    rw (credit-is sheet, same)
+    (started .feasible (instanceIn t caps) (record { seats = refl; windows = refl; cap = λ i j li lj. refl; supply = λ j lj. refl }))
+
+-- the end as a grid
+pub settled-grid : (I : Instance) (sheet : Sheet) (r : Grid) → r ≡ gridOf sheet → Settled I (credit sheet) → Settled I (cell r)
+settled-grid I sheet r e settled = rw (e, ← credit-is sheet) settled

@@ -28,13 +28,17 @@ pub fn plan_check(file: &[u8], room: usize) -> Check
     Check::Sound
 }
 
-// A settled sheet of a book in memory.
+// A settled sheet of a book in memory. The start is nearly always settled already; that the end is settled, settling alone shows.
 fn planned_sheet(book: Book, caps: [[u16; 24]; 32]) -> [[u16; 24]; 32]
     requires { ⌜ Holding book caps ⌝ }
     ensures { λ r. ⌜ SettledIn book caps r ⌝ }
 {
     let terms = bookterms::terms_of(book);
-    let settled = settle::settle(Sheet::zero(), caps, terms);
+    let supplies = terms.supplies;
+    let weights = terms.weights;
+    let bases = terms.bases;
+    let start = greedy::start(terms.seats, terms.windows, caps, supplies, weights, bases);
+    let settled = settle::settle(Sheet::from_grid(start), caps, terms);
     settled.to_grid()
 }
 

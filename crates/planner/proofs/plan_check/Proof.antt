@@ -1,52 +1,41 @@
+-- `planner::plan_check` meets its contract: the reader's lines first, then the buffer's.
+use mathlib.Core.Path.{_≡_, refl, _∙_}
+use mathlib.Core.Option.{none}
+use native.Mathlib.Omega.{arith}
 use borrow.Author.Needs.{needs}
+use Rattle.dayfile.specs.Bounds.{Fit}
+use Rattle.dayfile.specs.Layout.{bookOf}
+use Rattle.dayfile.specs.Table.{firstOf, readLines, plannedLength}
+use Rattle.dayfile.specs.Memory.{held}
+use Rattle.dayfile.proofs.Answers.{refuses, passes}
+use Rattle.planner.proofs.Steps.{fit-of, refused-early, refused-short, long-enough, need-is}
 use Rattle.planner.proofs.plan_check.Statement.{statement}
 use Rattle.planner.proofs.plan_check.Tie as tie
-use Rattle.planner.proofs.plan_check.Reads as reads
-use Rattle.planner.proofs.plan_check.Lts as lts
-use Rattle.reader.proofs.read_book.Reads as read-book-reads
-use Rattle.reader.proofs.read_check.Reads as read-check-reads
-use Rattle.writer.proofs.file_length.Reads as file-length-reads
 
--- src/lib.rt:17:44
-read-check-requires : tie.Need-read-check-requires
-read-check-requires c κs = search needs
-
--- src/lib.rt:17:29
-enum-known-number : tie.Need-enum-known-number
-enum-known-number c = search needs
-
--- src/lib.rt:18:9
 returns : tie.Need-returns
-returns c = search needs
+returns c = refused-early _ _ _ (refuses (c .before .before .before .read-check .ensures) (c .before .number .given .1))
 
-enum-told : tie.Need-enum-told
-enum-told c = search needs
-
--- src/lib.rt:20:9
-read-book-requires : tie.Need-read-book-requires
-read-book-requires c κs = search needs
-
--- src/lib.rt:21:9
 file-length-requires : tie.Need-file-length-requires
-file-length-requires c κs = search needs
+file-length-requires c κs =
+    let fit = fit-of _ (passes (c .before .before .before .read-check .ensures) (c .before .enum-told .given .1)) in
+    let holds = c .read-book .ensures in
+    (omega (arith, fit .seats-high, holds .seats-are), omega (arith, fit .windows-high, holds .windows-are))
 
--- src/lib.rt:23:9
 returns-2 : tie.Need-returns-2
-returns-2 c = search needs
+returns-2 c = ?
 
--- src/lib.rt:14:1
 returns-3 : tie.Need-returns-3
-returns-3 c = search needs
+returns-3 c = ?
 
 pub plan-check-spec : {M : Type 1} → statement M
 plan-check-spec =
     tie.close
     (tie.spec
-    read-check-requires
-    enum-known-number
+    (λ c κs. search needs)
+    (λ c. search needs)
     returns
-    enum-told
-    read-book-requires
+    (λ c. search needs)
+    (λ c κs. search needs)
     file-length-requires
     returns-2
     returns-3)
