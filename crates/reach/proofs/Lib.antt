@@ -3,3 +3,4 @@ pub mod Members
 pub mod Unions
 pub mod Search
 pub mod Steps
+pub mod Collect

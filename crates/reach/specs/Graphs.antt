@@ -14,6 +14,14 @@ use Rattle.reach.specs.declared.Receiver.the-variants.{Nobody, Seat}
 abbrev pub setAt : List ℕ → ℕ → ℕ
 setAt sets i = getD sets i 0
 
+-- a set has exactly the numbers below n that have P
+abbrev pub Collects : ℕ → (ℕ → Type 0) → ℕ → Type 0
+Collects n P set = (i : ℕ) → In i set ↔ ((i < n) × P i)
+
+-- the sets below n are the rows of a relation P, and the others are empty
+abbrev pub Rows : ℕ → (ℕ → ℕ → Type 0) → List ℕ → Type 0
+Rows n P sets = (i k : ℕ) → In k (setAt sets i) ↔ ((i < n) × P i k)
+
 -- via is a member of a set, and l is in the set at via
 pub record Leads (set : ℕ) (sets : List ℕ) (l via : ℕ) : Type 0 where
   pub member : In via set

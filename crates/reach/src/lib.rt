@@ -4,7 +4,7 @@ ghost use mathlib.Core.Bool.{false};
 ghost use Prim.Native.Nat.{ℕ, _≤_, _<_};
 ghost use lib.ListN.{length};
 ghost use Rattle.masks.specs.Sets.{bit, Within};
-ghost use Rattle.reach.specs.Graphs.{setAt, Leads, Through, UnionOver, Sound, Answers, Apart, Layers, Fewest};
+ghost use Rattle.reach.specs.Graphs.{setAt, Collects, Rows, Leads, Through, UnionOver, Sound, Answers, Apart, Layers, Fewest};
 use masks::has;
 use masks::insert;
 use masks::intersect;
@@ -65,6 +65,31 @@ pub fn grows(set: u32, more: u32) -> bool
     ensures { λ r. ⌜ ((r ≡ false → Within more set) × (Within more set → r ≡ false)) ⌝ }
 {
     size(set) < size(union(set, more))
+}
+
+// The rows whose sets have a number.
+pub fn column(rows: [u32; 32], w: usize) -> u32
+    requires { ⌜ w < 32 ⌝ }
+    ensures { λ r. ⌜ Collects 32 (λ i. bit (setAt rows i) w ≡ 1) r ⌝ }
+{
+    let mut set: u32 = 0;
+    for i in 0..32 {
+        if has(rows[i], w) {
+            set = insert(set, i);
+        }
+    }
+    set
+}
+
+// For each window the seats whose sets of windows have it.
+pub fn columns(rows: [u32; 32]) -> [u32; 24]
+    ensures { λ r. ⌜ Rows 24 (λ w i. (i < 32) × (bit (setAt rows i) w ≡ 1)) r ⌝ }
+{
+    let mut sets = [0u32; 24];
+    for w in 0..24 {
+        sets[w] = column(rows, w);
+    }
+    sets
 }
 
 // The graph of the rooms and the holders.

@@ -25,7 +25,8 @@ loop-again c =
     let at = c .before .before .loop in
     let start = c .before .before .before in
     let out = has-out _ _ _ (c .before .has .ensures) (not-true _ (c .if1 .taken)) in
-    (omega (arith, before-end (start .args .t1) (at .r) 31 _ (omega arith) out (start .pre .1)), below-more _ _ (at .inv .1) (out-zero _ _ out))
+    let more = before-end (start .args .t1) (at .r) 31 _ (omega arith) out (start .pre .1) in
+    (omega (arith, more), below-more _ _ (at .inv .1) (out-zero _ _ out))
 
 returns : tie.Need-returns Inv-loop μ-loop
 returns c =

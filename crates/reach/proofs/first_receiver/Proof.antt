@@ -10,7 +10,8 @@ use Rattle.masks.specs.Sets.{sizeOf}
 use Rattle.reach.specs.declared.Receiver.the-variants.{Nobody, Seat}
 use Rattle.reach.specs.Graphs.{setAt, Donor}
 use Rattle.reach.proofs.Members.{has-in, has-out}
-use Rattle.reach.proofs.Search.{none, Seen, Looking, first, taken-seen, taken, taken-less, closed-within, last, look-first, passed, look-last, found, joined}
+use Rattle.reach.proofs.Search.{none, Seen, Looking, first, taken-seen, taken, taken-less, closed-within, last}
+use Rattle.reach.proofs.Search.{look-first, passed, look-last, found, joined}
 use Rattle.reach.proofs.first_receiver.Statement.{statement}
 use Rattle.reach.proofs.first_receiver.Tie as tie
 

@@ -27,8 +27,9 @@ returns c =
 loop-again : tie.Need-loop-again Inv-loop μ-loop
 loop-again c =
     let at = c .before .before .before .loop in
+    let start = c .before .before .before .before .before in
     let answer = c .before .has .ensures in
-    let not-here : Leads _ _ _ (at .i) → ⊥ =
+    let not-here : Leads (start .args .set) (start .args .sets .now) (start .args .l) (at .i) → ⊥ =
     (λ p. ⊎-elim
     (λ w. has-out _ _ _ (w .2 .ensures) (w .3 .left) (p .leads))
     (λ w. has-out _ _ _ answer (w .left) (p .member))

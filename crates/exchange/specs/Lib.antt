@@ -1,0 +1,4 @@
+-- What the contracts of this crate cite.
+pub mod Held
+pub mod Tests
+pub mod Search

@@ -1,0 +1,62 @@
+-- Sets and rows that are collected one number after the other. Assumes nothing.
+use mathlib.Core.Path.{_≡_, refl, sym, _∙_}
+use mathlib.Core.Logic.{_≢_, _↔_}
+use mathlib.Core.List.{List}
+use Prim.Native.Nat.{ℕ, zero, suc, _+_, _<_, _≤_}
+use native.Mathlib.Decide.{ℕ-discrete}
+use native.Mathlib.Omega.{arith}
+use lib.ListN.{length, getD, set, replicate}
+use lib.Seq.{getD-set-same, getD-set-other}
+use Rattle.masks.specs.Sets.{bit, In, Inserted}
+use Rattle.masks.proofs.Laws.{bit-zero}
+use Rattle.reach.specs.Graphs.{setAt, Collects, Rows}
+
+-- ---- a set
+
+pub collect-first : (P : ℕ → Type 0) → Collects 0 P 0
+collect-first P i = (λ p. absurd (omega (arith, bit-zero i)), λ p. absurd (omega (arith, p .0)))
+
+module _ (P : ℕ → Type 0) (n m : ℕ) (c : Collects n P m) where
+  -- one number more, which has P
+  pub collect-in : (m′ : ℕ) → P n → Inserted m n m′ → Collects (n + 1) P m′
+  collect-in m′ p ins i = (to, from)
+    where
+      to : In i m′ → (i < n + 1) × P i
+      to q = elim (ℕ-discrete i n) [
+        | yes e ↦ (omega arith, rw e p)
+        | no d ↦ let h = c i .0 (sym (ins .others i d) ∙ q) in (omega (arith, h .0), h .1)
+      ]
+
+      from : (i < n + 1) × P i → In i m′
+      from h = elim (ℕ-discrete i n) [ yes e ↦ rw e (ins .here) | no d ↦ ins .others i d ∙ c i .1 (omega (arith, h .0), h .1) ]
+
+  -- and one that has not
+  pub collect-out : (P n → ⊥) → Collects (n + 1) P m
+  collect-out f i = (
+    λ q. let h = c i .0 q in (omega (arith, h .0), h .1),
+    λ h. elim (ℕ-discrete i n) [ yes e ↦ absurd (f (rw e at (h .1))) | no d ↦ c i .1 (omega (arith, h .0), h .1) ],
+  )
+
+-- ---- rows
+
+empty-at : (n i : ℕ) → setAt (replicate n 0) i ≡ 0
+empty-at zero i = refl
+empty-at (suc n) zero = refl
+empty-at (suc n) (suc i) = empty-at n i
+
+pub rows-first : (P : ℕ → ℕ → Type 0) (n : ℕ) → Rows 0 P (replicate n 0)
+rows-first P n i k = (λ p. absurd (omega (arith, rw (empty-at n i) at p, bit-zero k)), λ p. absurd (omega (arith, p .0)))
+
+-- one row more
+pub rows-next : (P : ℕ → ℕ → Type 0) (n v : ℕ) (sets : List ℕ) → n < length sets → Rows n P sets → ((k : ℕ) → In k v ↔ P n k)
+    → Rows (n + 1) P (set sets n v)
+rows-next P n v sets h rows row i k =
+    elim (ℕ-discrete i n) [
+      | yes e ↦ rw e (rw (getD-set-same sets n v 0 h) (λ p. (omega arith, row k .0 p), λ p. row k .1 (p .1)))
+      | no d ↦
+          let r = rows i k in
+          rw (getD-set-other sets n i v 0 d) (
+            λ p. let q = r .0 p in (omega (arith, q .0), q .1),
+            λ p. r .1 (omega (arith, p .0), p .1),
+          )
+    ]
