@@ -26,6 +26,8 @@ pub mod Progress
 pub mod Measure
 pub mod Settle
 pub mod Certificate
+-- by the used entries alone
+pub mod Alike
 -- what others cite
 pub mod Theorems
 -- that the definitions are met

@@ -1,0 +1,3 @@
+-- What the numbers of a book say, for this crate and those above it.
+pub mod Told
+pub mod Heights
