@@ -1,3 +1,4 @@
 pub mod Accepted
 pub mod Decode
-pub mod Theorems
+pub mod Coding
+pub mod Seeking
