@@ -12,9 +12,9 @@ ghost use Rattle.marker.specs.Marking.{Marks};
 ghost use Rattle.marker.specs.Steps.{fairMark, MarkedAs, Kept, KeepsLawful};
 use dayfile::Book;
 use dayfile::Check;
+use exchange::Rule;
 use routes::seek;
 use routes::write_route;
-use exchange::Rule;
 use sheet::Sheet;
 use terms::Terms;
 use waste::Waste;
@@ -60,7 +60,13 @@ fn mark_sheet(book: Book, caps: [[u16; 24]; 32], sheet: Sheet, moves: &mut [u8])
         MarkedAs b s (markOf b s) (now (moves .entry)) (now (moves .exit)) r) ⌝ }
 {
     let supplies = book.supplies;
-    if let Waste::At { window, seat } = waste::wasted(sheet, caps, supplies, book.seats, book.windows) {
+    if let Waste::At { window, seat } = waste::wasted(
+        sheet,
+        caps,
+        supplies,
+        book.seats,
+        book.windows,
+    ) {
         return Marking::Wasteful {
             window: window + 1,
             seat: seat + 1,

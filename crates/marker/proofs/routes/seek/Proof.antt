@@ -22,8 +22,7 @@ returns c =
     let own = told-in t (a .caps) in
     let self = shows-itself t (a .sheet) in
     let here = c .search .ensures I (credit (a .sheet)) (told-held t (a .caps) I own (credit (a .sheet)) (a .sheet) self)
-    (scored I (credit (a .sheet)) (a .caps) own self) in
-    (
+    (scored I (credit (a .sheet)) (a .caps) own self) in (
       writable t (a .caps) (a .sheet) _ _ (b .pre .0) here,
       λ J S told shows. c .search .ensures J S (told-held t (a .caps) J told S (a .sheet) shows) (scored J S (a .caps) told shows),
     )
