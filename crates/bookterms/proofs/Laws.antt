@@ -19,6 +19,11 @@ use Rattle.bookterms.specs.Books.{HoldsFit}
 
 -- ---- what a book in memory holds
 
+-- a cell of a grid in memory
+pub held-cell : (g : Grid) (i j : ℕ) → i < 32 → j < 24 → cell (held g) i j ≡ cell g i j
+held-cell g i j li lj =
+    ap (λ (r : List ℕ). getD r j 0) (sized-row 32 24 g i li) ∙ sized-at 24 (getD g i []) j lj
+
 module _ (m : Memory.Book) (h : HoldsFit m) where
   pub seats-most : m .seats ≤ 32
   seats-most = omega (arith, h .fit .seats-high, h .holds .seats-are)
@@ -114,9 +119,8 @@ module _ (m : Memory.Book) (k : ℕ) (ws ps bs : List ℕ) (fit : HoldsFit m) (l
     where
       cap-is : (i j : ℕ) → i < m .seats → j < m .windows → cell (b .caps) i j ≡ cell caps i j
       cap-is i j li lj =
-          sym (ap (λ (g : Grid). cell g i j) e
-          ∙ ap (λ (r : List ℕ). getD r j 0) (sized-row 32 24 (b .caps) i (omega (arith, seats-most m fit)))
-          ∙ sized-at 24 (getD (b .caps) i []) j (omega (arith, windows-most m fit)))
+          let inside = held-cell (b .caps) i j (omega (arith, seats-most m fit)) (omega (arith, windows-most m fit)) in
+          sym (ap (λ (g : Grid). cell g i j) e ∙ inside)
 
       supply-is : (j : ℕ) → j < m .windows → getD (b .supplies) j 0 ≡ getD (m .supplies) j 0
       supply-is j lj =

@@ -19,7 +19,8 @@ use Rattle.model.specs.Book.{Book, Grid, SheetOf, Lawful, cell, seats, windows,
 use Rattle.model.specs.Marks.{Mark, markOf}
 use Rattle.model.proofs.Lowest.{lowest-none, lowest-fails}
 use Rattle.dayfile.specs.Layout.{field, start, seatsIn, windowsIn, entryOf, gridAt, bookOf, sheetOf}
-use Rattle.dayfile.specs.Table.{Line, Refusal, line, firstOf, offset, line13, line14, line15, cellAt, placedIn, markerLines, bufferLines, markLines, readLines}
+use Rattle.dayfile.specs.Table.{Line, Refusal, line, firstOf, offset, line13, line14, line15, cellAt, placedIn}
+use Rattle.dayfile.specs.Table.{markerLines, bufferLines, markLines, readLines}
 use Rattle.dayfile.specs.Outcome.{Outcome, turnedAway, answer, unless, outcome, NoneHolds}
 use Rattle.dayfile.proofs.Lines.{none-holds, none-parts}
 use Rattle.dayfile.proofs.Search.{offset-none}

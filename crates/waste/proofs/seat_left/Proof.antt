@@ -1,0 +1,29 @@
+-- `waste::seat_left` meets its contract: by whether the window has credits left.
+use borrow.Author.Needs.{needs}
+use borrow.Author.Tests.{lt-ltb, le-ltb}
+use Prim.Native.Nat.{ℕ, _≤_, _<_}
+use lib.ListN.{getD}
+use Rattle.model.specs.Book.{cell}
+use Rattle.sheet.specs.Sheets.{credit}
+use Rattle.waste.proofs.Laws.{left-is, full-is}
+use Rattle.waste.proofs.seat_left.Statement.{statement}
+use Rattle.waste.proofs.seat_left.Tie as tie
+
+returns : tie.Need-returns
+returns c =
+    left-is _ _ _ _ _ (lt-ltb _ _ (rw (c .before .before .placed .ensures) at (c .before .if1 .taken))) (c .seat-below .ensures)
+
+returns-2 : tie.Need-returns-2
+returns-2 c = full-is _ _ _ _ _ (le-ltb _ _ (rw (c .before .placed .ensures) at (c .if1 .left)))
+
+pub seat-left-spec : {M : Type 1} → statement M
+seat-left-spec =
+    tie.close
+    (tie.spec
+    (λ c. search needs)
+    (λ c. search needs)
+    (λ c. search needs)
+    (λ c. search needs)
+    (λ c. search needs)
+    returns
+    returns-2)
