@@ -86,3 +86,13 @@ sum-term (suc n) f k l = go (λ b. sum-term n f k b) (ℕ-discrete k n)
     go : (k < n → f k ≤ sum n f) → Dec (k ≡ n) → f k ≤ sum n f + f n
     go ih (yes e) = omega (arith, ap f e)
     go ih (no d) = omega (arith, ih (omega arith))
+
+-- termwise, and strictly at k
+pub sum-lt : (n : ℕ) (f g : ℕ → ℕ) (k : ℕ) → ((i : ℕ) → i < n → f i ≤ g i) → k < n → f k < g k → sum n f < sum n g
+unfolding sum
+sum-lt zero f g k h l s = absurd (omega arith)
+sum-lt (suc n) f g k h l s = go (λ b. sum-lt n f g k (λ i c. h i (omega arith)) b s) (ℕ-discrete k n)
+  where
+    go : (k < n → sum n f < sum n g) → Dec (k ≡ n) → sum n f + f n < sum n g + g n
+    go ih (yes e) = omega (arith, sum-le n f g (λ i c. h i (omega arith)), s, ap f e, ap g e)
+    go ih (no d) = omega (arith, ih (omega arith), h n (le-refl (suc n)))
