@@ -4,8 +4,9 @@ use mathlib.Core.List.{List}
 use mathlib.Core.Option.{Option, none, some}
 use mathlib.Core.Path.{_≡_, sym, _∙_, ap, subst}
 use Prim.Native.Nat.{ℕ, _<_}
+use lib.ListN.{length}
 use Rattle.dayfile.specs.Table.{Line, Refusal, refuse, firstOf}
-use Rattle.dayfile.specs.Outcome.{Outcome, answer, unless, outcome}
+use Rattle.dayfile.specs.Outcome.{answer, unless}
 use Rattle.dayfile.specs.Memory.{found, Under, refused, front, after, Writes}
 use Rattle.dayfile.specs.declared.Found.{Found}
 use Rattle.dayfile.specs.declared.Found.the-variants.{At, Nothing}
@@ -32,18 +33,18 @@ pub passes : {r : Check} {l : Option Refusal} → refused r ≡ l → r ≡ Soun
 passes e h = sym e ∙ ap refused h
 
 -- a call that writes a file: it refuses and leaves the buffer alone, or the file stands at the buffer's front
-pub writes-refused : (ls : List Line) (file buf : List ℕ) (x n p : ℕ) → firstOf ls ≡ some (refuse n p)
-    → Writes (outcome ls x) file buf (Written.the-variants.Refused n p) buf
-writes-refused ls file buf x n p e =
+pub writes-refused : (lines : ℕ → List Line) (file buf : List ℕ) (n p : ℕ) → firstOf (lines (length buf)) ≡ some (refuse n p)
+    → Writes lines file buf (Written.the-variants.Refused n p) buf
+writes-refused lines file buf n p e =
     record {
-      says = ap (λ (o : Option Refusal). unless o x) (sym e);
-      leaves = ap (λ (o : Option Refusal). after (unless o x) file buf) (sym e);
+      says = ap (λ (o : Option Refusal). unless o (length file)) (sym e);
+      leaves = ap (λ (o : Option Refusal). after (unless o (length file)) file buf) (sym e);
     }
 
-pub writes-whole : (ls : List Line) (file buf end : List ℕ) (x n : ℕ) → firstOf ls ≡ none → n ≡ x → end ≡ front file buf
-    → Writes (outcome ls x) file buf (Written.the-variants.Whole n) end
-writes-whole ls file buf end x n e q h =
+pub writes-whole : (lines : ℕ → List Line) (file buf end : List ℕ) (n : ℕ) → firstOf (lines (length buf)) ≡ none
+    → n ≡ length file → end ≡ front file buf → Writes lines file buf (Written.the-variants.Whole n) end
+writes-whole lines file buf end n e q h =
     record {
-      says = ap answer q ∙ ap (λ (o : Option Refusal). unless o x) (sym e);
-      leaves = h ∙ ap (λ (o : Option Refusal). after (unless o x) file buf) (sym e);
+      says = ap answer q ∙ ap (λ (o : Option Refusal). unless o (length file)) (sym e);
+      leaves = h ∙ ap (λ (o : Option Refusal). after (unless o (length file)) file buf) (sym e);
     }

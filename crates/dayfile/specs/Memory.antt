@@ -10,8 +10,8 @@ use Rattle.fairness.specs.Leximin.{table}
 use Rattle.model.specs.Lowest.{getOr, isSome}
 use Rattle.model.specs.Book.{Book, Grid, cell, seats, windows}
 use Rattle.dayfile.specs.File.{fileOf}
-use Rattle.dayfile.specs.Table.{Refusal, refuse}
-use Rattle.dayfile.specs.Outcome.{Outcome, turnedAway, answer}
+use Rattle.dayfile.specs.Table.{Line, Refusal, refuse}
+use Rattle.dayfile.specs.Outcome.{Outcome, turnedAway, answer, outcome}
 use Rattle.dayfile.specs.declared.Book as Memory
 use Rattle.dayfile.specs.declared.Found.{Found}
 use Rattle.dayfile.specs.declared.Found.the-variants.{At, Nothing}
@@ -96,7 +96,7 @@ abbrev pub after : {A : Type 0} → Outcome A → List ℕ → List ℕ → List
 after (turnedAway q) file buf = buf
 after (answer x) file buf = front file buf
 
--- what a call that writes a file answers, and its output buffer afterwards
-pub record Writes (o : Outcome ℕ) (file buf : List ℕ) (r : Written.Written) (end : List ℕ) : Type 0 where
-  pub says : written r ≡ o
-  pub leaves : end ≡ after o file buf
+-- a call that writes a file: down its lines for a buffer of that length, the refusal, or else the file's length and the file at the front
+pub record Writes (lines : ℕ → List Line) (file buf : List ℕ) (r : Written.Written) (end : List ℕ) : Type 0 where
+  pub says : written r ≡ outcome (lines (length buf)) (length file)
+  pub leaves : end ≡ after (outcome (lines (length buf)) (length file)) file buf

@@ -17,7 +17,6 @@ use Rattle.dayfile.specs.File.{Part, part, bodies, assemble, flat, partsOf, fil
 use Rattle.dayfile.specs.Table.{Line, Refusal, line, refuse, firstOf, within, offset, sizeRight, outside}
 use Rattle.dayfile.specs.Table.{line7, line8, line10, line11, line12, line16}
 use Rattle.dayfile.specs.Table.{valueLines, optionLines, bufferLines, writeLines}
-use Rattle.dayfile.specs.Outcome.{outcome}
 use Rattle.dayfile.specs.Memory.{sized, sizedGrid, fileIn, front, Writes}
 use Rattle.dayfile.specs.declared.Book as Memory
 use Rattle.dayfile.specs.declared.Written as Written
@@ -30,9 +29,9 @@ use Rattle.dayfile.proofs.Fields.{fields-at}
 use Rattle.dayfile.proofs.Grids.{sized-flat-length}
 use Rattle.dayfile.proofs.Container.{nth, before, start-is, size-is, body-is}
 use Rattle.dayfile.proofs.Sound.{kept}
-use Rattle.writer.specs.Stores.{entriesOf, partsIn}
+use Rattle.store.specs.Stores.{entriesOf, partsIn}
 use Rattle.writer.specs.Lines.{outsideIn, countLines, valuesIn}
-use Rattle.writer.proofs.Files.{parts-are, count-is, all}
+use Rattle.store.proofs.Files.{parts-are, count-is, all}
 
 -- ---- counts and sizes
 
@@ -196,8 +195,7 @@ module _ (b : Memory.Book) (caps : Grid) (sheet : Grid) (t : Bool) where
 
   -- what `write` ensures
   abbrev pub Answer : List ℕ → Written.Written → List ℕ → Type 0
-  Answer buf r end =
-      Writes (outcome (writeLines (fileIn b caps t sheet) (length buf)) (length (fileIn b caps t sheet))) (fileIn b caps t sheet) buf r end
+  Answer buf r end = Writes (writeLines (fileIn b caps t sheet)) (fileIn b caps t sheet) buf r end
 
   pub book-pass : firstOf (countLines b ++ valuesIn b caps (contentsEnd (entriesOf t))) ≡ none → (b .seats ≤ 32) × (b .windows ≤ 24)
   book-pass e = counts-pass b (none-parts (countLines b) (valuesIn b caps (contentsEnd (entriesOf t))) e .0)
@@ -206,7 +204,7 @@ module _ (b : Memory.Book) (caps : Grid) (sheet : Grid) (t : Bool) where
   pub early : (buf : List ℕ) {n p : ℕ} → firstOf (countLines b ++ valuesIn b caps (contentsEnd (entriesOf t))) ≡ some (refuse n p)
       → Answer buf (Written.the-variants.Refused n p) buf
   early buf {n} {p} e =
-      writes-refused (writeLines whole (length buf)) whole buf (length whole) n p
+      writes-refused (writeLines whole) whole buf n p
       (ap firstOf (sym (lines-are b caps sheet t (length buf))) ∙ stop-in lines (rest (length buf)) (refuse n p) e)
 
   late : (room : ℕ) → firstOf lines ≡ none → firstOf (writeLines whole room) ≡ firstOf (rest room)
@@ -218,7 +216,7 @@ module _ (b : Memory.Book) (caps : Grid) (sheet : Grid) (t : Bool) where
   unfolding optionLines bufferLines line16
   no-room buf {k} e q h =
       let n : ℕ = length whole in
-      writes-refused (writeLines whole (length buf)) whole buf n 16 k
+      writes-refused (writeLines whole) whole buf 16 k
       (late (length buf) e
       ∙ sym (stop 16 none (sym (yes-when n (lt-ltb (length buf) n (omega arith)))))
       ∙ ap (λ (x : ℕ). some (refuse 16 x)) (sym q))
@@ -230,5 +228,5 @@ module _ (b : Memory.Book) (caps : Grid) (sheet : Grid) (t : Bool) where
   unfolding optionLines bufferLines line16
   enough buf end {k} e q h f =
       let n : ℕ = length whole in
-      writes-whole (writeLines whole (length buf)) whole buf end n k
+      writes-whole (writeLines whole) whole buf end k
       (late (length buf) e ∙ sym (on 16 (sym (no-when n (le-ltb (length buf) n (omega arith)))) refl)) q f

@@ -1,4 +1,2 @@
-pub mod Storing
-pub mod Files
 pub mod Bounds
 pub mod Checks

@@ -1,3 +1,2 @@
--- What the writer's parts store and find; what the whole does is said by the definitions of the crate `dayfile`.
-pub mod Stores
+-- The lines that the writer checks in memory; what the whole does is said by the definitions of the crate `dayfile`.
 pub mod Lines

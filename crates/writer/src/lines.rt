@@ -8,14 +8,14 @@ ghost use Rattle.dayfile.specs.Layout.{contentsEnd};
 ghost use Rattle.dayfile.specs.File.{flat};
 ghost use Rattle.dayfile.specs.Table.{within, firstOf};
 ghost use Rattle.dayfile.specs.Memory.{found, refused, sized, sizedGrid};
-ghost use Rattle.writer.specs.Stores.{entriesOf};
+ghost use Rattle.store.specs.Stores.{entriesOf};
 ghost use Rattle.writer.specs.Lines.{outsideIn, countLines, valuesIn};
-use super::store::entries;
-use super::store::number;
 use dayfile::Book;
 use dayfile::Check;
 use dayfile::Found;
 use dayfile::within;
+use store::contents::entries;
+use store::numbers::number;
 
 // Line 7: the number of seats.
 fn wrong_seats(book: Book) -> Found

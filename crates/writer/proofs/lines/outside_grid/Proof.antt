@@ -5,7 +5,7 @@ use native.Mathlib.Nat.{mul-le-mul}
 use native.Mathlib.Omega.{arith}
 use borrow.Author.Needs.{needs}
 use Rattle.dayfile.proofs.Answers.{at-line, no-line}
-use Rattle.writer.proofs.Bounds.{rows, rows-first, rows-more, rows-found}
+use Rattle.writer.proofs.Bounds.{rows, row, rows-first, rows-more, rows-found}
 use Rattle.writer.proofs.lines.outside_grid.Statement.{statement}
 use Rattle.writer.proofs.lines.outside_grid.Tie as tie
 
@@ -45,7 +45,7 @@ returns c =
     let l = t .before in
     let a = l .before .args in
     sym (rows-found (a .low) (a .high) (a .at) (a .m) (a .t1) (l .loop .i) (a .n) _ (t .loop-test .taken) (l .loop .inv .1)
-    (at-line (o .outside-row .ensures) (c .before .p .given .1)))
+    (at-line {l = row (a .low) (a .high) (a .at) (a .m) (a .t1) (l .loop .i)} (o .outside-row .ensures) (c .before .p .given .1)))
 
 loop-again : tie.Need-loop-again Inv-loop μ-loop
 loop-again c =
@@ -54,7 +54,7 @@ loop-again c =
     let a = l .before .args in (
       omega arith,
       rows-more (a .low) (a .high) (a .at) (a .m) (a .t1) (l .loop .i) (l .loop .inv .1)
-          (no-line (o .outside-row .ensures) (c .enum-told .given .1)),
+          (no-line {l = row (a .low) (a .high) (a .at) (a .m) (a .t1) (l .loop .i)} (o .outside-row .ensures) (c .enum-told .given .1)),
     )
 
 returns-2 : tie.Need-returns-2 Inv-loop μ-loop

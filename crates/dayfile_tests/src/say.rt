@@ -1,0 +1,59 @@
+// Text on the standard output.
+use dayfile::Check;
+use dayfile::Written;
+
+pub fn say_text(text: &[u8]) {
+    io::write_all(1, text);
+}
+
+pub fn say_number(n: usize) {
+    io::print_decimal(1, n as u64);
+}
+
+pub fn say_cell(x: u16) {
+    say_number(x as usize);
+}
+
+fn say_byte(x: u8) {
+    io::print_hex(1, x as u64, 2);
+}
+
+// Bytes in hexadecimal, and the line's end.
+pub fn say_hex(bytes: &[u8]) {
+    let mut i = 0;
+    while i < bytes.len() {
+        say_byte(bytes[i]);
+        i += 1;
+    }
+    say_text(b"\n");
+}
+
+fn say_refusal(number: u8, at: usize) {
+    say_text(b"refused ");
+    say_number(number as usize);
+    say_text(b" at ");
+    say_number(at);
+}
+
+pub fn say_check(c: Check) {
+    match c {
+        Check::Refused { number, at } => {
+            say_refusal(number, at);
+        }
+        Check::Sound => {
+            say_text(b"taken");
+        }
+    }
+}
+
+pub fn say_written(w: Written) {
+    match w {
+        Written::Refused { number, at } => {
+            say_refusal(number, at);
+        }
+        Written::Whole { length } => {
+            say_text(b"length ");
+            say_number(length);
+        }
+    }
+}
