@@ -5,6 +5,7 @@ ghost use Prim.Native.Nat.{ℕ, _≤_, _<_};
 ghost use lib.ListN.{length};
 ghost use Rattle.masks.specs.Sets.{bit, Within};
 ghost use Rattle.reach.specs.Graphs.{setAt, Collects, Rows, Leads, Through, UnionOver, Sound, Answers, Apart, Layers, Fewest};
+use masks::full;
 use masks::has;
 use masks::insert;
 use masks::intersect;
@@ -133,34 +134,34 @@ pub fn fewest(sets: [u32; 32], l: usize) -> usize
     r
 }
 
-// The first seat, from seat 0 up, from which moves reach one that it wants. Of each seat that is reached, every window in which it has
-// room is looked at in turn, unless it brings nothing new.
+// The first seat, from seat 0 up, from which moves reach one that it wants. Of each seat that is reached, the windows in which it has room
+// are looked at in turn, each once: who holds a credit there was seen then.
 pub fn first_receiver(graph: Graph, wants: [u32; 32], seats: usize) -> Receiver
     requires { ⌜ (seats ≤ 32) × (Sound graph × Apart wants) ⌝ }
     ensures { λ r. ⌜ Answers (graph .takes) wants seats r ⌝ }
 {
     let rooms = graph.rooms;
     let holders = graph.holders;
-    let takes = graph.takes;
     let mut found = Receiver::Nobody;
     'receiver: for g in 0..seats {
         let mut seen = insert(0, g);
         let mut front = seen;
+        let mut windows = full(24);
         'reached: while front != 0 {
             let k = lowest(front);
             front = remove(front, k);
-            if grows(seen, takes[k]) {
-                for w in 0..24 {
-                    if has(rooms[k], w) {
-                        let new = minus(holders[w], seen);
-                        if intersect(new, wants[g]) != 0 {
-                            found = Receiver::Seat(g);
-                            break 'receiver;
-                        }
-                        front = union(front, new);
-                        seen = union(seen, new);
-                    }
+            let mut left = intersect(rooms[k], windows);
+            windows = minus(windows, left);
+            'window: while left != 0 {
+                let w = lowest(left);
+                left = remove(left, w);
+                let new = minus(holders[w], seen);
+                if intersect(new, wants[g]) != 0 {
+                    found = Receiver::Seat(g);
+                    break 'receiver;
                 }
+                front = union(front, new);
+                seen = union(seen, new);
             }
         }
     }
