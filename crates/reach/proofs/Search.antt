@@ -123,7 +123,8 @@ module _ (wants rooms holders : List ℕ) (g : ℕ) where
       reaches takes sound l p =
           let way = s .so-far .only takes sound k (s .here) in
           let held : In l (setAt holders w) = omega (arith, fresh l, bit-lt (setAt holders w) l) in
-          let leads : Through (setAt rooms k) holders l = record { via = w; here = record { member = s .room w (low .here); leads = held } } in
+          let room = s .room w (low .here) in
+          let leads : Through (setAt rooms k) holders l = record { via = w; here = record { member = room; leads = held } } in
           (suc (way .0), inr (k, (way .1, sound k .whole l leads)))
 
       -- a seat that g wants comes in

@@ -32,7 +32,7 @@ pub enum Receiver {
 }
 
 // The union of the sets at the members of a set.
-pub fn union_over(set: u32, sets: &[u32]) -> u32
+fn union_over(set: u32, sets: &[u32]) -> u32
     requires { ⌜ length (now sets) ≤ 32 ⌝ }
     ensures { λ r. ⌜ UnionOver set (now (sets .entry)) r ⌝ }
 {
@@ -62,14 +62,14 @@ pub fn first_through(set: u32, sets: &[u32], l: usize) -> usize
 }
 
 // Whether a set would grow by the members of another.
-pub fn grows(set: u32, more: u32) -> bool
+fn grows(set: u32, more: u32) -> bool
     ensures { λ r. ⌜ ((r ≡ false → Within more set) × (Within more set → r ≡ false)) ⌝ }
 {
     size(set) < size(union(set, more))
 }
 
 // The rows whose sets have a number.
-pub fn column(rows: [u32; 32], w: usize) -> u32
+fn column(rows: [u32; 32], w: usize) -> u32
     requires { ⌜ w < 32 ⌝ }
     ensures { λ r. ⌜ Collects 32 (λ i. bit (setAt rows i) w ≡ 1) r ⌝ }
 {
@@ -108,16 +108,21 @@ pub fn draw(rooms: [u32; 32], holders: [u32; 24]) -> Graph
     }
 }
 
-// What each number of moves reaches from a seat, 0 to 31 moves.
+// What each number of moves reaches from a seat, 0 to 31 moves. Once the set does not grow it is done.
 pub fn layers(takes: [u32; 32], g: usize) -> [u32; 32]
     requires { ⌜ g < 32 ⌝ }
     ensures { λ r. ⌜ Layers takes g r ⌝ }
 {
     let mut set = insert(0, g);
     let mut sets = [0u32; 32];
+    let mut growing = true;
     for r in 0..32 {
         sets[r] = set;
-        set = union(set, union_over(set, &takes));
+        if growing {
+            let near = union_over(set, &takes);
+            growing = grows(set, near);
+            set = union(set, near);
+        }
     }
     sets
 }

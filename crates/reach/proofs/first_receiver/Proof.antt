@@ -20,13 +20,15 @@ abbrev Fails : List ℕ → List ℕ → List ℕ → ℕ → Type 0
 Fails rooms holders wants h = (takes : List ℕ) → Sums rooms holders takes → (l : ℕ) → Donor takes wants h l → ⊥
 
 abbrev Inv-window : tie.InvT-window
-Inv-window seats wants rooms holders found₀ g seen₀ front₀ windows k left₀ found seen front left = (found ≡ Nobody) × Looking wants rooms holders g k seen₀ front₀ seen front windows left
+Inv-window seats wants rooms holders found₀ g seen₀ front₀ windows k left₀ found seen front left =
+    (found ≡ Nobody) × Looking wants rooms holders g k seen₀ front₀ seen front windows left
 
 abbrev μ-window : tie.MeasureT-window
 μ-window seats wants rooms holders found₀ g seen₀ front₀ windows k left₀ found seen front left = sizeOf left
 
 abbrev Inv-reached : tie.InvT-reached
-Inv-reached seats wants rooms holders found₀ g seen₀ front₀ windows₀ found seen front windows = (found ≡ Nobody) × Seen wants rooms holders g seen front windows 0
+Inv-reached seats wants rooms holders found₀ g seen₀ front₀ windows₀ found seen front windows =
+    (found ≡ Nobody) × Seen wants rooms holders g seen front windows 0
 
 abbrev μ-reached : tie.MeasureT-reached
 μ-reached seats wants rooms holders found₀ g seen₀ front₀ windows₀ found seen front windows = 32 + sizeOf front - sizeOf seen
@@ -49,14 +51,15 @@ window-holds : tie.Need-window-holds Inv-window μ-window Inv-reached μ-reached
 window-holds c =
     let at = c .before .before .before .before .before .reached in
     let low = c .before .before .before .lowest .ensures in
-    (at .inv .0, taken _ _ _ _ _ _ _ _ _ _ _ (at .inv .1) low (c .before .before .remove .ensures) (c .before .intersect .ensures) (c .minus .ensures))
+    let next = taken _ _ _ _ _ _ _ _ _ _ _ (at .inv .1) low (c .before .before .remove .ensures) in
+    (at .inv .0, next (c .before .intersect .ensures) (c .minus .ensures))
 
 reached-less : tie.Need-reached-less Inv-window μ-window Inv-reached μ-reached Inv-receiver μ-receiver
 reached-less c =
     let at = c .before .before .before .before .before .before .before .reached in
     let low = c .before .before .before .before .before .lowest .ensures in
-    let next = taken-less _ _ _ _ _ _ _ _ _ _ _ (at .inv .1) low (c .before .before .before .before .remove .ensures) (c .before .before .before .intersect .ensures) in
-    next (c .before .before .minus .ensures) _ _ (c .before .window .inv .1 .alike)
+    let next = taken-less _ _ _ _ _ _ _ _ _ _ _ (at .inv .1) low (c .before .before .before .before .remove .ensures) in
+    next (c .before .before .before .intersect .ensures) (c .before .before .minus .ensures) _ _ (c .before .window .inv .1 .alike)
 
 reached-again : tie.Need-reached-again Inv-window μ-window Inv-reached μ-reached Inv-receiver μ-receiver
 reached-again c =
@@ -90,7 +93,8 @@ window-again c =
     let at = c .before .before .before .before .before .before .before .before .window in
     let low = c .before .before .before .before .before .before .lowest2 .ensures in
     let next = joined _ _ _ _ _ _ _ _ _ _ _ (at .inv .1) _ low _ _ _ (c .before .before .before .before .before .remove2 .ensures) in
-    (at .inv .0, next (c .before .before .before .before .minus2 .ensures) (c .before .before .before .intersect2 .ensures) _ _ (c .before .union .ensures) (c .union2 .ensures) (c .before .before .if1 .left))
+    let new = next (c .before .before .before .before .minus2 .ensures) (c .before .before .before .intersect2 .ensures) in
+    (at .inv .0, new _ _ (c .before .union .ensures) (c .union2 .ensures) (c .before .before .if1 .left))
 
 receiver-again : tie.Need-receiver-again Inv-window μ-window Inv-reached μ-reached Inv-receiver μ-receiver
 receiver-again c =
@@ -107,12 +111,14 @@ returns c =
 
 returns-2 : tie.Need-returns-2 Inv-window μ-window Inv-reached μ-reached Inv-receiver μ-receiver
 returns-2 c =
-    let at = c .before .before .before .before .before .before .window in
-    let turn = c .before .before .before .before .before .before .before .before .before .before .before .before .before .before .before in
-    let start = c .before .before .before .before .before .before .before .before .before .before .before .before .before .before .before .before .before .before .before in
+    let inner = c .before .before .before .before .before .before in
+    let at = inner .window in
+    let turn = inner .before .before .before .before .before .before .before .before .before in
+    let start = turn .before .before .before .before in
     let low = c .before .before .before .before .lowest2 .ensures in
-    let new = found _ _ _ _ _ _ _ _ _ _ _ (at .inv .1) _ low _ _ _ (c .before .before .before .remove2 .ensures) (c .before .before .minus2 .ensures) in
-    let donor = new (c .before .intersect2 .ensures) _ (start .pre .1 .0) (omega arith) (search needs) in
+    let next = found _ _ _ _ _ _ _ _ _ _ _ (at .inv .1) _ low _ _ _ (c .before .before .before .remove2 .ensures) in
+    let new = next (c .before .before .minus2 .ensures) (c .before .intersect2 .ensures) in
+    let donor = new _ (start .pre .1 .0) (omega arith) (search needs) in
     record {
       seat = turn .receiver-test .taken;
       donor = donor .0;
