@@ -1,8 +1,8 @@
 -- What callers cite: a search in memory finds what the rules on lists say. Assumes nothing.
-use mathlib.Core.Path.{_≡_, refl, sym, _∙_}
+use mathlib.Core.Path.{_≡_, sym, _∙_}
 use mathlib.Core.Bool.{true, false}
 use mathlib.Core.List.{List, [], _∷_, map}
-use mathlib.Core.Option.{Option, none, some}
+use mathlib.Core.Option.{none, some}
 use Prim.Native.Nat.{ℕ, zero, suc, _<_, _≤_}
 use native.Mathlib.Omega.{arith}
 use lib.ListN.{length, getD, take, length-map, length-take}
@@ -10,7 +10,7 @@ use Rattle.fairness.specs.Classes.{weightOf}
 use Rattle.fairness.specs.Instance.{Instance, total}
 use Rattle.fairness.specs.Exchange.{All, Possible}
 use Rattle.model.specs.Book.{Book, Grid, cell, seats, windows, instanceOf}
-use Rattle.model.specs.Search.{search, Picked, Shortest}
+use Rattle.model.specs.Search.{search, Picked}
 use Rattle.model.proofs.Meaning.{search-some, search-none}
 use Rattle.model.proofs.Tests.{not-true}
 use Rattle.sheet.specs.declared.Sheet.{Sheet}
@@ -22,7 +22,7 @@ use Rattle.exchange.specs.declared.Scores.{Scores}
 use Rattle.exchange.specs.declared.Rule.{Rule}
 use Rattle.exchange.specs.Held.{Held, Scored}
 use Rattle.exchange.specs.Tests.{testOf}
-use Rattle.exchange.specs.Search.{Answers, Chosen, movesOf}
+use Rattle.exchange.specs.Search.{Answers, movesOf}
 use Rattle.exchange.proofs.Choosing.{test-apart}
 
 -- ---- the search on lists

@@ -5,7 +5,7 @@ ghost use Prim.Native.Nat.{ℕ, _≤_, _<_};
 ghost use lib.ListN.{getD};
 ghost use Rattle.fairness.specs.Instance.{Instance};
 ghost use Rattle.fairness.specs.Numbers.{Moderate};
-ghost use Rattle.reach.specs.Graphs.{Collects, Rows, Sound, Layers, Fewest, Donor};
+ghost use Rattle.reach.specs.Graphs.{Collects, Rows, Sound, Fewest};
 ghost use Rattle.exchange.specs.Held.{Held, Scored, Bounded, Drawn};
 ghost use Rattle.exchange.specs.Tests.{testBy, testOn};
 ghost use Rattle.exchange.specs.Search.{Answers, HasDonor, Layered, Nearest, RouteTo};

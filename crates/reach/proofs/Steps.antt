@@ -1,12 +1,12 @@
 -- Sets that grow by a move at a time. Assumes nothing.
-use mathlib.Core.Path.{_≡_, refl}
+use mathlib.Core.Path.{_≡_}
 use mathlib.Core.Logic.{inl, inr}
 use mathlib.Core.List.{List}
 use Prim.Native.Nat.{ℕ, suc, _+_, _<_, _≤_, max}
 use native.Mathlib.Numerals.{add-one}
 use native.Mathlib.Decide.{ℕ-discrete, decLt}
 use native.Mathlib.Omega.{arith}
-use lib.ListN.{length, getD, List·getD-eq-default}
+use lib.ListN.{length, List·getD-eq-default}
 use Rattle.masks.specs.Sets.{bit, In, Within, Inserted}
 use Rattle.masks.proofs.Laws.{bit-lt, bit-zero}
 use Rattle.reach.specs.Graphs.{setAt, Through, UnionOver, Reach, Layer}

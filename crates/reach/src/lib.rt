@@ -1,7 +1,7 @@
 // Which seats a receiver reaches: sets of seats as masks, grown along the moves that are possible.
 ghost use mathlib.Core.Path.{_≡_};
 ghost use mathlib.Core.Bool.{false};
-ghost use Prim.Native.Nat.{ℕ, _≤_, _<_};
+ghost use Prim.Native.Nat.{_≤_, _<_};
 ghost use lib.ListN.{length};
 ghost use Rattle.masks.specs.Sets.{bit, Within};
 ghost use Rattle.reach.specs.Graphs.{setAt, Collects, Rows, Leads, Through, UnionOver, Sound, Answers, Apart, Layers, Fewest};
