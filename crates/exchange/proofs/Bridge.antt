@@ -1,18 +1,16 @@
 -- The graph in memory and the layers of the crate `fairness` are the same. Assumes nothing.
 use mathlib.Core.Path.{_≡_, refl}
 use mathlib.Core.Logic.{_↔_, inl, inr}
-use mathlib.Core.List.{List}
-use Prim.Native.Nat.{ℕ, zero, suc, _+_, _<_, _≤_}
+use Prim.Native.Nat.{ℕ, zero, suc, _+_, _<_}
 use native.Mathlib.Omega.{arith}
 use lib.ListN.{length}
 use Rattle.fairness.specs.Instance.{Instance}
-use Rattle.fairness.specs.Exchange.{Possible}
 use Rattle.fairness.specs.Layers.{Edge, Within}
 use Rattle.fairness.proofs.Theorems.{within-seats, within-more}
 use Rattle.masks.specs.Sets.{bit, In}
 use Rattle.masks.proofs.Laws.{bit-lt}
 use Rattle.reach.specs.declared.Graph.{Graph}
-use Rattle.reach.specs.Graphs.{setAt, Leads, Sound, Reach}
+use Rattle.reach.specs.Graphs.{setAt, Sound, Reach}
 use Rattle.reach.proofs.Members.{at-small}
 use Rattle.exchange.specs.Held.{Drawn}
 

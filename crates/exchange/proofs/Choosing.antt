@@ -1,6 +1,6 @@
 -- From sets in memory to what paper 01's rule picks. Assumes nothing.
 use mathlib.Core.Path.{_≡_, refl, sym, ap, _∙_}
-use mathlib.Core.Bool.{Bool, true, false, _&&_}
+use mathlib.Core.Bool.{true, _&&_}
 use mathlib.Core.Logic.{_⊎_, inl, inr}
 use mathlib.Core.List.{List, [], _∷_}
 use Prim.Native.Nat.{ℕ, _+_, _-_, _*_, _<_, _≤_, min}
@@ -10,12 +10,12 @@ use native.Mathlib.Omega.{arith}
 use lib.Dec.{eqb, ltb}
 use lib.ListN.{length}
 use borrow.Author.Tests.{ltb-true}
-use Rattle.fairness.specs.Instance.{Instance, height}
+use Rattle.fairness.specs.Instance.{Instance}
 use Rattle.fairness.specs.Exchange as fairness
 use Rattle.fairness.specs.Exchange.{improves, tiesWrongly, improvesAt, tiesAt}
 use Rattle.fairness.proofs.Bools.{or-parts, and-parts}
 use Rattle.fairness.proofs.Theorems.{path-within, improves-apart, ties-apart}
-use Rattle.model.proofs.Tests.{not-true, true-not-false}
+use Rattle.model.proofs.Tests.{not-true}
 use Rattle.masks.specs.Sets.{bit, In}
 use Rattle.masks.proofs.Laws.{bit-lt}
 use Rattle.reach.specs.declared.Graph.{Graph}
@@ -28,7 +28,7 @@ use Rattle.exchange.specs.declared.Rule.the-variants.{Improves, TiesWron
 use Rattle.exchange.specs.Held.{Scored, Drawn}
 use Rattle.exchange.specs.Tests.{testOf, testBy, testOn}
 use Rattle.exchange.specs.Search.{movesOf, Nearest, Chosen}
-use Rattle.exchange.proofs.Bridge.{reach-within, within-reach, reach-seat}
+use Rattle.exchange.proofs.Bridge.{within-reach, reach-seat}
 
 -- ---- no seat wants itself
 

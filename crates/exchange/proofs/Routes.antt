@@ -1,21 +1,19 @@
 -- A route that is walked back from the donor, layer by layer. Assumes nothing.
-use mathlib.Core.Path.{_≡_, refl, sym, ap, _∙_}
+use mathlib.Core.Path.{_≡_, refl, _∙_}
 use mathlib.Core.Logic.{inl, inr}
 use mathlib.Core.List.{List, [], _∷_, map}
-use Prim.Native.Nat.{ℕ, suc, _+_, _<_, _≤_}
-use native.Mathlib.Numerals.{add-one}
+use Prim.Native.Nat.{ℕ, suc, _<_, _≤_}
 use native.Mathlib.Decide.{ℕ-discrete}
 use native.Mathlib.Omega.{arith}
-use lib.ListN.{length, getD, set, take, drop, length-take, length-set, length-map, drop-of-length-le}
+use lib.ListN.{length, set, take, drop, length-take, length-set, length-map, drop-of-length-le}
 use lib.Seq.{take-set-lt, drop-cons, getD-set-same, drop-set-lt}
 use Rattle.fairness.specs.Instance.{Instance}
 use Rattle.fairness.specs.Exchange as fairness
 use Rattle.sheet.specs.declared.Move.{Move}
 use Rattle.sheet.specs.Sheets.{moveOf}
-use Rattle.masks.specs.Sets.{bit, In}
 use Rattle.masks.proofs.Laws.{bit-lt}
 use Rattle.reach.specs.declared.Graph.{Graph}
-use Rattle.reach.specs.Graphs.{setAt, Leads, Through, UnionOver, Reach, Layers, Fewest}
+use Rattle.reach.specs.Graphs.{setAt, Leads, Through, Reach, Layers, Fewest}
 use Rattle.exchange.specs.Held.{Drawn}
 
 -- moves that link g, in layer r, to l: each is shown by the graph, and each giver is one layer further out than its taker

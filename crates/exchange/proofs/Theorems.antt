@@ -1,26 +1,28 @@
 -- What callers cite: a search in memory finds what the rules on lists say. Assumes nothing.
-use mathlib.Core.Path.{_≡_, refl, sym, _∙_}
+use mathlib.Core.Path.{_≡_, sym, _∙_}
 use mathlib.Core.Bool.{true, false}
-use mathlib.Core.List.{List}
-use mathlib.Core.Option.{Option, none, some}
-use Prim.Native.Nat.{ℕ, _+_, _<_, _≤_}
+use mathlib.Core.List.{List, [], _∷_, map}
+use mathlib.Core.Option.{none, some}
+use Prim.Native.Nat.{ℕ, zero, suc, _<_, _≤_}
 use native.Mathlib.Omega.{arith}
-use lib.ListN.{length, getD}
+use lib.ListN.{length, getD, take, length-map, length-take}
 use Rattle.fairness.specs.Classes.{weightOf}
-use Rattle.fairness.specs.Instance.{total}
+use Rattle.fairness.specs.Instance.{Instance, total}
+use Rattle.fairness.specs.Exchange.{All, Possible}
 use Rattle.model.specs.Book.{Book, Grid, cell, seats, windows, instanceOf}
-use Rattle.model.specs.Search.{search, Picked, Shortest}
+use Rattle.model.specs.Search.{search, Picked}
 use Rattle.model.proofs.Meaning.{search-some, search-none}
 use Rattle.model.proofs.Tests.{not-true}
 use Rattle.sheet.specs.declared.Sheet.{Sheet}
-use Rattle.sheet.specs.Sheets.{gridOf, used}
+use Rattle.sheet.specs.declared.Move.{Move}
+use Rattle.sheet.specs.Sheets.{gridOf, moveOf, used}
 use Rattle.sheet.proofs.Cells.{credit-cell, used-cell}
 use Rattle.exchange.specs.declared.Exchange.{Exchange}
 use Rattle.exchange.specs.declared.Scores.{Scores}
 use Rattle.exchange.specs.declared.Rule.{Rule}
 use Rattle.exchange.specs.Held.{Held, Scored}
 use Rattle.exchange.specs.Tests.{testOf}
-use Rattle.exchange.specs.Search.{Answers, Chosen, movesOf}
+use Rattle.exchange.specs.Search.{Answers, movesOf}
 use Rattle.exchange.proofs.Choosing.{test-apart}
 
 -- ---- the search on lists
@@ -55,6 +57,24 @@ module _ (b : Book) (s : Grid) (rule : Rule) (x : Exchange) (a : Answers (instan
   -- and where nothing was found, it finds nothing
   pub search-nothing : x .found ≡ false → search b s (testOf rule (instanceOf b) (cell s)) ≡ none
   search-nothing e = search-none b s (testOf rule (instanceOf b) (cell s)) apart .1 (a .none e)
+
+-- ---- the moves of a route
+
+all-at : {A B : Type 0} (P : B → Type 0) (f : A → B) (d : A) (xs : List A) (n q : ℕ) → All P (map f (take n xs)) → q < n → n ≤ length xs
+    → P (f (getD xs q d))
+all-at P f d [] n q p h l = absurd (omega arith)
+all-at P f d (x ∷ xs) zero q p h l = absurd (omega arith)
+all-at P f d (x ∷ xs) (suc n) zero p h l = p .0
+all-at P f d (x ∷ xs) (suc n) (suc q) p h l = all-at P f d xs n q (p .1) (omega arith) (omega arith)
+
+-- each move of an exchange that was found is possible on the sheet as it is; past the end of the array comes d
+pub move-possible : (I : Instance) (S : ℕ → ℕ → ℕ) (rule : Rule) (x : Exchange) (d : Move) → Answers I S rule x → x .found ≡ true
+    → (q : ℕ) → q < x .route .count → Possible I S (moveOf (getD (x .route .moves) q d))
+move-possible I S rule x d a e q h =
+    let ms = x .route .moves in
+    let n = x .route .count in
+    let long : n ≤ length ms = omega (arith, a .counted, length-map (take n ms) moveOf, length-take n ms) in
+    all-at (Possible I S) moveOf d ms n q (a .some e .path .possible) h long
 
 -- ---- a book and a sheet in memory
 

@@ -1,7 +1,6 @@
 -- The contracts speak of every instance and sheet, in the terms of the crate `fairness`, that the arrays in memory hold.
 use mathlib.Core.Path.{_≡_}
 use mathlib.Core.Logic.{_↔_}
-use mathlib.Core.List.{List}
 use Prim.Native.Nat.{ℕ, _<_}
 use lib.ListN.{getD}
 use Rattle.fairness.specs.Instance.{Instance, height}
@@ -11,7 +10,7 @@ use Rattle.model.specs.Book.{Grid, cell}
 use Rattle.sheet.specs.declared.Sheet.{Sheet}
 use Rattle.sheet.specs.Sheets.{credit}
 use Rattle.reach.specs.declared.Graph.{Graph}
-use Rattle.reach.specs.Graphs.{setAt, Leads, Sound}
+use Rattle.reach.specs.Graphs.{setAt, Leads}
 use Rattle.exchange.specs.declared.Scores.{Scores}
 
 -- the used cells are those of the instance I and of the sheet S

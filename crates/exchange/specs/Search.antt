@@ -15,7 +15,7 @@ use Rattle.exchange.specs.declared.Rule.{Rule}
 use Rattle.exchange.specs.Tests.{testOf}
 use Rattle.exchange.specs.Held.{Drawn}
 
--- the moves of a route: the first of its array, as many as it counts
+-- the moves of a route, the receiver's first: as many of its array as it counts
 abbrev pub movesOf : Route → List fairness.Move
 movesOf route = map moveOf (take (route .count) (route .moves))
 
@@ -45,8 +45,8 @@ pub record Nearest (graph : Graph) (wants : List ℕ) (g : ℕ) (x : Exchange) :
   pub path : (I : Instance) (S : ℕ → ℕ → ℕ) (seats : ℕ) → Drawn I S seats graph →
       fairness.Path I S g (x .donor) (movesOf (x .route))
 
--- what paper 01's rule picks for a test: the first receiver that has a path which passes, its lowest donor, and a path between the two
--- that has the fewest moves
+-- what paper 01's rule picks for a test: the first receiver g (gainer) that has a path which passes, its lowest donor l (loser), and a path
+-- (chain) between the two that has the fewest moves
 pub record Chosen (I : Instance) (S : ℕ → ℕ → ℕ) (test : ℕ → ℕ → Bool) (g l : ℕ) (ms : List fairness.Move) : Type 0 where
   pub seat : g < I .seats
   pub passes : test g l ≡ true

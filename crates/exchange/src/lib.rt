@@ -5,7 +5,7 @@ ghost use Prim.Native.Nat.{ℕ, _≤_, _<_};
 ghost use lib.ListN.{getD};
 ghost use Rattle.fairness.specs.Instance.{Instance};
 ghost use Rattle.fairness.specs.Numbers.{Moderate};
-ghost use Rattle.reach.specs.Graphs.{Collects, Rows, Sound, Layers, Fewest, Donor};
+ghost use Rattle.reach.specs.Graphs.{Collects, Rows, Sound, Fewest};
 ghost use Rattle.exchange.specs.Held.{Held, Scored, Bounded, Drawn};
 ghost use Rattle.exchange.specs.Tests.{testBy, testOn};
 ghost use Rattle.exchange.specs.Search.{Answers, HasDonor, Layered, Nearest, RouteTo};
@@ -42,7 +42,7 @@ pub struct Exchange {
 }
 
 // The windows in which a row has less than another.
-pub fn below(a: [u16; 24], b: [u16; 24], windows: usize) -> u32
+fn below(a: [u16; 24], b: [u16; 24], windows: usize) -> u32
     requires { ⌜ windows ≤ 24 ⌝ }
     ensures { λ r. ⌜ Collects windows (λ w. getD a w 0 < getD b w 0) r ⌝ }
 {
@@ -74,7 +74,7 @@ pub fn graph(sheet: Sheet, caps: [[u16; 24]; 32], seats: usize, windows: usize) 
 }
 
 // Whether a rule wants an exchange, by height, weight and position of the receiver and of the donor.
-pub fn wanted(
+fn wanted(
     rule: Rule,
     height: u32,
     weight: u32,
@@ -100,7 +100,7 @@ pub fn wanted(
 }
 
 // The donors that a rule wants for a receiver.
-pub fn wanted_by(rule: Rule, scores: Scores, seats: usize, g: usize) -> u32
+fn wanted_by(rule: Rule, scores: Scores, seats: usize, g: usize) -> u32
     requires { ⌜ (seats ≤ 32) × ((g < seats) × Bounded seats scores) ⌝ }
     ensures { λ r. ⌜ Collects seats (λ l. testOn rule scores g l ≡ true) r ⌝ }
 {
@@ -125,7 +125,7 @@ pub fn wanted_by(rule: Rule, scores: Scores, seats: usize, g: usize) -> u32
 }
 
 // For each receiver the donors that a rule wants.
-pub fn wants(rule: Rule, scores: Scores, seats: usize) -> [u32; 32]
+fn wants(rule: Rule, scores: Scores, seats: usize) -> [u32; 32]
     requires { ⌜ (seats ≤ 32) × Bounded seats scores ⌝ }
     ensures { λ r. ⌜ Rows seats (λ g l. (l < seats) × (testOn rule scores g l ≡ true)) r ⌝ }
 {
@@ -138,7 +138,7 @@ pub fn wants(rule: Rule, scores: Scores, seats: usize) -> [u32; 32]
 
 // The moves of a shortest path to a donor, from the layers that each number of moves reaches: from the donor back, the taker of each move
 // is a seat of the layer before.
-pub fn route_to(graph: Graph, sets: [u32; 32], donor: usize, count: usize) -> Route
+fn route_to(graph: Graph, sets: [u32; 32], donor: usize, count: usize) -> Route
     requires { ⌜ Sound graph × (Fewest sets donor count × Layered (graph .takes) sets) ⌝ }
     ensures { λ r. ⌜ RouteTo graph sets donor count r ⌝ }
 {
@@ -168,7 +168,7 @@ pub fn route_to(graph: Graph, sets: [u32; 32], donor: usize, count: usize) -> Ro
 }
 
 // The exchange of a receiver that has a donor which it wants: the lowest such donor, and a path to it that has the fewest moves.
-pub fn exchange_of(graph: Graph, wants: [u32; 32], g: usize) -> Exchange
+fn exchange_of(graph: Graph, wants: [u32; 32], g: usize) -> Exchange
     requires { ⌜ (g < 32) × (Sound graph × HasDonor (graph .takes) wants g) ⌝ }
     ensures { λ r. ⌜ Nearest graph wants g r ⌝ }
 {

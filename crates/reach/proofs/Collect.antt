@@ -1,13 +1,13 @@
 -- Sets and rows that are collected one number after the other. Assumes nothing.
 use mathlib.Core.Path.{_≡_, refl, sym, _∙_}
-use mathlib.Core.Logic.{_≢_, _↔_}
+use mathlib.Core.Logic.{_↔_}
 use mathlib.Core.List.{List}
-use Prim.Native.Nat.{ℕ, zero, suc, _+_, _<_, _≤_}
+use Prim.Native.Nat.{ℕ, zero, suc, _+_, _<_}
 use native.Mathlib.Decide.{ℕ-discrete}
 use native.Mathlib.Omega.{arith}
-use lib.ListN.{length, getD, set, replicate}
+use lib.ListN.{length, set, replicate}
 use lib.Seq.{getD-set-same, getD-set-other}
-use Rattle.masks.specs.Sets.{bit, In, Inserted}
+use Rattle.masks.specs.Sets.{In, Inserted}
 use Rattle.masks.proofs.Laws.{bit-zero}
 use Rattle.reach.specs.Graphs.{setAt, Collects, Rows}
 

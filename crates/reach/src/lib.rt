@@ -1,10 +1,11 @@
 // Which seats a receiver reaches: sets of seats as masks, grown along the moves that are possible.
 ghost use mathlib.Core.Path.{_≡_};
 ghost use mathlib.Core.Bool.{false};
-ghost use Prim.Native.Nat.{ℕ, _≤_, _<_};
+ghost use Prim.Native.Nat.{_≤_, _<_};
 ghost use lib.ListN.{length};
 ghost use Rattle.masks.specs.Sets.{bit, Within};
 ghost use Rattle.reach.specs.Graphs.{setAt, Collects, Rows, Leads, Through, UnionOver, Sound, Answers, Apart, Layers, Fewest};
+use masks::full;
 use masks::has;
 use masks::insert;
 use masks::intersect;
@@ -31,7 +32,7 @@ pub enum Receiver {
 }
 
 // The union of the sets at the members of a set.
-pub fn union_over(set: u32, sets: &[u32]) -> u32
+fn union_over(set: u32, sets: &[u32]) -> u32
     requires { ⌜ length (now sets) ≤ 32 ⌝ }
     ensures { λ r. ⌜ UnionOver set (now (sets .entry)) r ⌝ }
 {
@@ -61,14 +62,14 @@ pub fn first_through(set: u32, sets: &[u32], l: usize) -> usize
 }
 
 // Whether a set would grow by the members of another.
-pub fn grows(set: u32, more: u32) -> bool
+fn grows(set: u32, more: u32) -> bool
     ensures { λ r. ⌜ ((r ≡ false → Within more set) × (Within more set → r ≡ false)) ⌝ }
 {
     size(set) < size(union(set, more))
 }
 
 // The rows whose sets have a number.
-pub fn column(rows: [u32; 32], w: usize) -> u32
+fn column(rows: [u32; 32], w: usize) -> u32
     requires { ⌜ w < 32 ⌝ }
     ensures { λ r. ⌜ Collects 32 (λ i. bit (setAt rows i) w ≡ 1) r ⌝ }
 {
@@ -107,16 +108,21 @@ pub fn draw(rooms: [u32; 32], holders: [u32; 24]) -> Graph
     }
 }
 
-// What each number of moves reaches from a seat, 0 to 31 moves.
+// What each number of moves reaches from a seat, 0 to 31 moves. Once the set does not grow it is done.
 pub fn layers(takes: [u32; 32], g: usize) -> [u32; 32]
     requires { ⌜ g < 32 ⌝ }
     ensures { λ r. ⌜ Layers takes g r ⌝ }
 {
     let mut set = insert(0, g);
     let mut sets = [0u32; 32];
+    let mut growing = true;
     for r in 0..32 {
         sets[r] = set;
-        set = union(set, union_over(set, &takes));
+        if growing {
+            let near = union_over(set, &takes);
+            growing = grows(set, near);
+            set = union(set, near);
+        }
     }
     sets
 }
@@ -133,34 +139,34 @@ pub fn fewest(sets: [u32; 32], l: usize) -> usize
     r
 }
 
-// The first seat, from seat 0 up, from which moves reach one that it wants. Of each seat that is reached, every window in which it has
-// room is looked at in turn, unless it brings nothing new.
+// The first seat, from seat 0 up, from which moves reach one that it wants. Of each seat that is reached, the windows in which it has room
+// are looked at in turn, each once: who holds a credit there was seen then.
 pub fn first_receiver(graph: Graph, wants: [u32; 32], seats: usize) -> Receiver
     requires { ⌜ (seats ≤ 32) × (Sound graph × Apart wants) ⌝ }
     ensures { λ r. ⌜ Answers (graph .takes) wants seats r ⌝ }
 {
     let rooms = graph.rooms;
     let holders = graph.holders;
-    let takes = graph.takes;
     let mut found = Receiver::Nobody;
     'receiver: for g in 0..seats {
         let mut seen = insert(0, g);
         let mut front = seen;
+        let mut windows = full(24);
         'reached: while front != 0 {
             let k = lowest(front);
             front = remove(front, k);
-            if grows(seen, takes[k]) {
-                for w in 0..24 {
-                    if has(rooms[k], w) {
-                        let new = minus(holders[w], seen);
-                        if intersect(new, wants[g]) != 0 {
-                            found = Receiver::Seat(g);
-                            break 'receiver;
-                        }
-                        front = union(front, new);
-                        seen = union(seen, new);
-                    }
+            let mut left = intersect(rooms[k], windows);
+            windows = minus(windows, left);
+            'window: while left != 0 {
+                let w = lowest(left);
+                left = remove(left, w);
+                let new = minus(holders[w], seen);
+                if intersect(new, wants[g]) != 0 {
+                    found = Receiver::Seat(g);
+                    break 'receiver;
                 }
+                front = union(front, new);
+                seen = union(seen, new);
             }
         }
     }

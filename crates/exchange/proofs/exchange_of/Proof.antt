@@ -3,7 +3,6 @@ use borrow.Author.Needs.{needs}
 use mathlib.Core.Path.{refl, sym, _∙_}
 use Prim.Native.Nat.{ℕ, _<_}
 use native.Mathlib.Omega.{arith}
-use lib.ListN.{length}
 use mir.Val.{Fits}
 use mir.Syntax.{w32}
 use Rattle.masks.proofs.Laws.{bit-lt, in-pos, in-small}
