@@ -15,7 +15,7 @@ use Rattle.text.specs.Text.{ascii, decimal, fourDigits, openingTime}
 
 -- ---- parts of a line
 
--- a label's bytes, and a number after them
+-- a label's bytes and a number after them; as a field, with the label in words
 unfoldable pub labelled : List ℕ → ℕ → List ℕ
 labelled label n = label ++ decimal n
 
@@ -29,6 +29,7 @@ labelledLast label n = labelled label n ++ ascii "\n"
 abbrev pub lastField : String → ℕ → List ℕ
 lastField words n = labelledLast (ascii words) n
 
+-- when window j opens
 unfoldable pub opens : ℕ → List ℕ
 opens j = ascii " opens " ++ fourDigits (openingTime j)
 
@@ -66,6 +67,7 @@ unfoldable pub lines : ℕ → (ℕ → List ℕ) → List ℕ
 lines zero line = []
 lines (suc n) line = lines n line ++ line n
 
+-- a line for each window, seat and move, from lists
 abbrev pub windowAt : List ℕ → List ℕ → ℕ → List ℕ
 windowAt supplies placed j = windowLine j (getD supplies j 0) (getD placed j 0)
 

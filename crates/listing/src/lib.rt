@@ -25,6 +25,7 @@ pub const LISTING_MAX: usize = 3453;
 // A buffer of this length takes every refusal.
 pub const REFUSAL_MAX: usize = 53;
 
+// A line for each window.
 fn put_window_lines(
     out: &mut [u8],
     at: usize,
@@ -43,6 +44,7 @@ fn put_window_lines(
     next
 }
 
+// A line for each seat.
 fn put_seat_lines(
     out: &mut [u8],
     at: usize,
@@ -61,7 +63,7 @@ fn put_seat_lines(
     next
 }
 
-// The moves as the marker writes them: three bytes each, window, giver, taker.
+// A line for each move. Moves come as the marker writes them: three bytes each, window, giver, taker.
 fn put_move_lines(out: &mut [u8], at: usize, moves: &[u8], count: usize) -> usize
     requires { ⌜ count * 3 ≤ length (now moves) ⌝ }
     requires { ⌜ Room (now out) at (moveLines count (now moves)) ⌝ }
@@ -147,5 +149,6 @@ pub fn put_refusal(out: &mut [u8], number: usize, offset: usize) -> usize
     requires { ⌜ refusalMax ≤ length (now out) ⌝ }
     ensures { λ r. ⌜ Printed (now (out .entry)) (refusalLine number offset) (now (out .exit)) r ⌝ }
 {
-    line::put_refusal_line(out, 0, number, offset)
+    let next = part::put_field(out, 0, b"refused ", number);
+    part::put_last_field(out, next, b" at ", offset)
 }

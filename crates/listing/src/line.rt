@@ -1,11 +1,12 @@
-// One line of each kind.
+// One line of each kind. Seats and windows count from 0, but those of the mark and of moves come as they are printed.
 use crate::part::put_field;
 use crate::part::put_last_field;
 use crate::part::put_opens;
 ghost use Prim.Native.Nat.{_<_};
 ghost use Rattle.text.specs.Text.{Room, Stored};
-ghost use Rattle.listing.specs.Listing.{headLine, windowLine, seatLine, leftLine, moveLine, refusalLine};
+ghost use Rattle.listing.specs.Listing.{headLine, windowLine, seatLine, leftLine, moveLine};
 
+// How many seats and windows there are.
 pub(crate) fn put_head_line(out: &mut [u8], at: usize, seats: usize, windows: usize) -> usize
     requires { ⌜ Room (now out) at (headLine seats windows) ⌝ }
     ensures { λ r. ⌜ Stored (now (out .entry)) at (headLine seats windows) (now (out .exit)) r ⌝ }
@@ -14,6 +15,7 @@ pub(crate) fn put_head_line(out: &mut [u8], at: usize, seats: usize, windows: us
     put_last_field(out, next, b" windows ", windows)
 }
 
+// A window: when it opens, what it has and what is placed.
 pub(crate) fn put_window_line(
     out: &mut [u8],
     at: usize,
@@ -31,6 +33,7 @@ pub(crate) fn put_window_line(
     put_last_field(out, next, b" placed ", placed as usize)
 }
 
+// A seat: its class and its total.
 pub(crate) fn put_seat_line(out: &mut [u8], at: usize, seat: usize, class: u16, total: u32) -> usize
     requires { ⌜ seat < 32 ⌝ }
     requires { ⌜ Room (now out) at (seatLine seat class total) ⌝ }
@@ -41,6 +44,7 @@ pub(crate) fn put_seat_line(out: &mut [u8], at: usize, seat: usize, class: u16, 
     put_last_field(out, next, b" total ", total as usize)
 }
 
+// Where a wasteful sheet left a credit.
 pub(crate) fn put_left_line(out: &mut [u8], at: usize, window: usize, seat: usize) -> usize
     requires { ⌜ Room (now out) at (leftLine window seat) ⌝ }
     ensures { λ r. ⌜ Stored (now (out .entry)) at (leftLine window seat) (now (out .exit)) r ⌝ }
@@ -49,6 +53,7 @@ pub(crate) fn put_left_line(out: &mut [u8], at: usize, window: usize, seat: usiz
     put_last_field(out, next, b" seat ", seat)
 }
 
+// A move: one credit in a window, from a giver to a taker.
 pub(crate) fn put_move_line(out: &mut [u8], at: usize, window: u8, giver: u8, taker: u8) -> usize
     requires { ⌜ Room (now out) at (moveLine window giver taker) ⌝ }
     ensures { λ r. ⌜ Stored (now (out .entry)) at (moveLine window giver taker) (now (out .exit)) r ⌝ }
@@ -56,12 +61,4 @@ pub(crate) fn put_move_line(out: &mut [u8], at: usize, window: u8, giver: u8, ta
     let mut next = put_field(out, at, b"move window ", window as usize);
     next = put_field(out, next, b" from ", giver as usize);
     put_last_field(out, next, b" to ", taker as usize)
-}
-
-pub(crate) fn put_refusal_line(out: &mut [u8], at: usize, number: usize, offset: usize) -> usize
-    requires { ⌜ Room (now out) at (refusalLine number offset) ⌝ }
-    ensures { λ r. ⌜ Stored (now (out .entry)) at (refusalLine number offset) (now (out .exit)) r ⌝ }
-{
-    let next = put_field(out, at, b"refused ", number);
-    put_last_field(out, next, b" at ", offset)
 }

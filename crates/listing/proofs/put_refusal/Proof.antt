@@ -1,18 +1,43 @@
 -- `listing::put_refusal` meets its contract.
 use borrow.Author.Needs.{needs}
+use Rattle.text.specs.Text.{Room}
+use Rattle.text.proofs.Buffer.{room-first, room-next, stored-next}
+use Rattle.listing.specs.Listing.{refusalLine}
 use Rattle.listing.proofs.Bounds.{refusal-le}
 use Rattle.listing.proofs.Fronts.{front-room, printed}
 use Rattle.listing.proofs.put_refusal.Statement.{statement}
 use Rattle.listing.proofs.put_refusal.Tie as tie
 
-put-refusal-line-requires : tie.Need-put-refusal-line-requires
-put-refusal-line-requires c κs = front-room (refusal-le _ _ (search needs) (search needs)) (c .before .before .pre)
+-- the buffer has room for the whole line
+fits : (c : tie.After-slice-known) → let a = c .before .args in Room (a .out .now) 0 (refusalLine (a .number) (a .offset))
+fits c =
+    let s = c .before in
+    front-room (refusal-le (s .args .number) (s .args .offset) (search needs) (search needs)) (s .pre)
+
+put-field-requires : tie.Need-put-field-requires
+unfolding refusalLine
+put-field-requires c κs = room-first _ _ (fits (c .before .before))
+
+put-last-field-requires : tie.Need-put-last-field-requires
+unfolding refusalLine
+put-last-field-requires c κs =
+    let first = c .before .before .before .before in
+    room-next _ _ (fits (first .before .before .before)) (first .put-field .ensures)
 
 returns : tie.Need-returns
+unfolding refusalLine
 returns c =
-    let line = c .before .before in
-    let start = line .before .before .before in
-    printed (front-room (refusal-le _ _ (search needs) (search needs)) (start .pre)) (line .put-refusal-line .ensures)
+    let last = c .before .before in
+    let first = last .before .before .before .before .before in
+    printed (fits (first .before .before .before)) (stored-next (first .put-field .ensures) (last .put-last-field .ensures))
 
 pub put-refusal-spec : {M : Type 1} → statement M
-put-refusal-spec = tie.close (tie.spec put-refusal-line-requires (λ c. search needs) returns)
+put-refusal-spec =
+    tie.close
+    (tie.spec
+    (λ c. search needs)
+    put-field-requires
+    (λ c. search needs)
+    put-last-field-requires
+    (λ c. search needs)
+    returns)
