@@ -1,0 +1,39 @@
+-- The text that the program `mark` prints of a file, and what stands in the output buffer afterwards.
+use mathlib.Core.Path.{_≡_}
+use mathlib.Core.List.{List, []}
+use Prim.Native.Nat.{ℕ}
+use lib.ListN.{length}
+use Rattle.fairness.specs.Exchange.{Move}
+use Rattle.model.specs.Book.{Book, Grid}
+use Rattle.model.specs.Search.{Found, PathOn}
+use Rattle.model.specs.Marks.{Mark, wasteful, improvable, tied, settled, resultOf}
+use Rattle.dayfile.specs.declared.Written.{Written}
+use Rattle.dayfile.specs.Layout.{bookOf}
+use Rattle.dayfile.specs.Table.{bufferLines}
+use Rattle.dayfile.specs.Outcome.{Outcome, turnedAway, answer, outcome}
+use Rattle.dayfile.specs.Memory.{written, after}
+use Rattle.listing.specs.Listing.{listingOf, refusalLine, listingMax}
+use Rattle.marker.specs.Marking.{sheetIn, markFile}
+
+-- the text of what the marker answers, with the moves that it writes
+abbrev pub textOf : Book → Grid → Outcome Mark → List Move → List ℕ
+textOf b s (turnedAway q) moves = refusalLine (q .number) (q .at)
+textOf b s (answer m) moves = listingOf b s (resultOf m) moves
+
+-- the moves are those of a path that the marker may write; marks 1 and 4 and a refusal have none
+abbrev pub MovesOf : Book → Grid → Outcome Mark → List Move → Type 0
+MovesOf b s (turnedAway q) moves = moves ≡ []
+MovesOf b s (answer (wasteful j i)) moves = moves ≡ []
+MovesOf b s (answer (improvable f)) moves = PathOn b s (f .receiver) (f .donor) moves × (length moves ≡ f .moves)
+MovesOf b s (answer (tied f)) moves = PathOn b s (f .receiver) (f .donor) moves × (length moves ≡ f .moves)
+MovesOf b s (answer settled) moves = moves ≡ []
+
+-- the contract of the listing: a buffer that could be too short for some listing is refused with line 16 and keeps its bytes; any other
+-- has the text at its front, and the bytes after it keep their values
+pub record Lists (file before after′ : List ℕ) (r : Written) : Type 0 where
+  pub moves : List Move
+  pub the-moves : MovesOf (bookOf file) (sheetIn file) (markFile file 93) moves
+  pub says :
+      written r
+      ≡ outcome (bufferLines (length before) listingMax) (length (textOf (bookOf file) (sheetIn file) (markFile file 93) moves))
+  pub buffer : after′ ≡ after (written r) (textOf (bookOf file) (sheetIn file) (markFile file 93) moves) before
