@@ -23,37 +23,39 @@ pub record Left (i j : ℕ) (supply left : ℕ) (r : Grid) : Type 0 where
 
 module _ (j : ℕ) (caps : Grid) (supply : ℕ) (g : Grid) where
   pub handed-none : Shaped 32 24 g → Handed 0 j caps supply g g × Left 0 j supply supply g
-  handed-none p =
-      (record {
-        shape = p;
-        within = λ i l. absurd (omega arith);
-        placed = omega (arith, sum-zero (λ i. cell g i j), sum-zero (λ i. cell caps i j));
-        past = λ i k l. refl;
-        others = λ i k d. refl;
-      }, record { rest = omega (arith, sum-zero (λ i. cell g i j)) })
+  handed-none p = (
+    record {
+      shape = p;
+      within = λ i l. absurd (omega arith);
+      placed = omega (arith, sum-zero (λ i. cell g i j), sum-zero (λ i. cell caps i j));
+      past = λ i k l. refl;
+      others = λ i k d. refl;
+    },
+    record { rest = omega (arith, sum-zero (λ i. cell g i j)) },
+  )
 
   -- seat i gets v more
   module _
       (i : ℕ) (r : Grid) (left v : ℕ) (hi : i < 32) (hj : j < 24) (e : v ≡ min left (cell caps i j))
       (h : Handed i j caps supply g r) (l : Left i j supply left r)
-      where
-    abbrev next : Grid
-    next = written r i j v
+    where
+      abbrev next : Grid
+      next = written r i j v
 
-    wrote : Written (cell r) i j v (cell next)
-    wrote = written-is 32 24 r (h .shape) i j v hi hj
+      wrote : Written (cell r) i j v (cell next)
+      wrote = written-is 32 24 r (h .shape) i j v hi hj
 
-    together : sum (i + 1) (λ k. cell next k j) ≡ sum i (λ k. cell r k j) + v
-    together =
-        let same = sum-eq i (λ k. cell next k j) (λ k. cell r k j) (λ k b. wrote .seats k j (λ q. omega arith)) in
-        rw add-one (omega (arith, sum-suc i (λ k. cell next k j), same, wrote .here))
+      together : sum (i + 1) (λ k. cell next k j) ≡ sum i (λ k. cell r k j) + v
+      together =
+          let same = sum-eq i (λ k. cell next k j) (λ k. cell r k j) (λ k b. wrote .seats k j (λ q. omega arith)) in
+          rw add-one (omega (arith, sum-suc i (λ k. cell next k j), same, wrote .here))
 
-    caps-together : sum (i + 1) (λ k. cell caps k j) ≡ sum i (λ k. cell caps k j) + cell caps i j
-    caps-together = rw add-one (sum-suc i (λ k. cell caps k j))
+      caps-together : sum (i + 1) (λ k. cell caps k j) ≡ sum i (λ k. cell caps k j) + cell caps i j
+      caps-together = rw add-one (sum-suc i (λ k. cell caps k j))
 
-    pub handed-more : Handed (i + 1) j caps supply g (written r i j v) × Left (i + 1) j supply (left - v) (written r i j v)
-    handed-more =
-        (record {
+      pub handed-more : Handed (i + 1) j caps supply g (written r i j v) × Left (i + 1) j supply (left - v) (written r i j v)
+      handed-more = (
+        record {
           shape = written-shaped 32 24 r (h .shape) i j v hi hj;
           within = λ k b. elim (ℕ-discrete k i) [
             | yes q ↦ rw q (omega (arith, wrote .here))
@@ -62,7 +64,9 @@ module _ (j : ℕ) (caps : Grid) (supply : ℕ) (g : Grid) where
           placed = omega (arith, together, h .placed, l .rest, caps-together);
           past = λ k b q. wrote .seats k b (λ z. omega arith) ∙ h .past k b (omega arith);
           others = λ k b d. wrote .windows k b d ∙ h .others k b d;
-        }, record { rest = omega (arith, together, l .rest) })
+        },
+        record { rest = omega (arith, together, l .rest) },
+      )
 
 -- ---- all windows
 

@@ -41,48 +41,48 @@ given-le g k w a i j = written-le g k w _ i j (omega arith)
 module _
     (n m : ℕ) (caps : Grid) (supplies : List ℕ) (g : Grid) (f : Filled n m caps supplies g) (hn : n ≤ 32) (hm : m ≤ 24)
     (w k t a : ℕ) (hw : w < m) (hk : k < n) (ht : t < n) (has : a ≤ cell g k w) (free : a ≤ cell caps t w - cell g t w)
-    where
-  shape₁ : Shaped 32 24 (given g k w a)
-  shape₁ = written-shaped 32 24 g (f .shape) k w _ (omega arith) (omega arith)
+  where
+    shape₁ : Shaped 32 24 (given g k w a)
+    shape₁ = written-shaped 32 24 g (f .shape) k w _ (omega arith) (omega arith)
 
-  first : Written (cell g) k w (cell g k w - a) (cell (given g k w a))
-  first = written-is 32 24 g (f .shape) k w _ (omega arith) (omega arith)
+    first : Written (cell g) k w (cell g k w - a) (cell (given g k w a))
+    first = written-is 32 24 g (f .shape) k w _ (omega arith) (omega arith)
 
-  second : Written (cell (given g k w a)) t w (cell (given g k w a) t w + a) (cell (taken (given g k w a) t w a))
-  second = written-is 32 24 (given g k w a) shape₁ t w _ (omega arith) (omega arith)
+    second : Written (cell (given g k w a)) t w (cell (given g k w a) t w + a) (cell (taken (given g k w a) t w a))
+    second = written-is 32 24 (given g k w a) shape₁ t w _ (omega arith) (omega arith)
 
-  -- what the taker has then is at most its cap, also where it is the giver
-  taker : cell (given g k w a) t w + a ≤ cell caps t w
-  taker =
-      elim (ℕ-discrete t k) [
-        | yes e ↦
-            let one : cell (given g k w a) t w ≡ cell g k w - a = rw e (first .here) in
-            omega (arith, one, ap (λ (i : ℕ). cell g i w) e, f .within t w ht hw)
-        | no d ↦ omega (arith, first .seats t w d, f .within t w ht hw)
-      ]
+    -- what the taker has then is at most its cap, also where it is the giver
+    taker : cell (given g k w a) t w + a ≤ cell caps t w
+    taker =
+        elim (ℕ-discrete t k) [
+          | yes e ↦
+              let one : cell (given g k w a) t w ≡ cell g k w - a = rw e (first .here) in
+              omega (arith, one, ap (λ (i : ℕ). cell g i w) e, f .within t w ht hw)
+          | no d ↦ omega (arith, first .seats t w d, f .within t w ht hw)
+        ]
 
-  other : (i j : ℕ) → j ≢ w → cell (taken (given g k w a) t w a) i j ≡ cell g i j
-  other i j d = second .windows i j d ∙ first .windows i j d
+    other : (i j : ℕ) → j ≢ w → cell (taken (given g k w a) t w a) i j ≡ cell g i j
+    other i j d = second .windows i j d ∙ first .windows i j d
 
-  within : (i j : ℕ) → i < n → j < m → cell (taken (given g k w a) t w a) i j ≤ cell caps i j
-  within i j hi hj =
-      elim (ℕ-discrete j w) [
-        | no d ↦ omega (arith, other i j d, f .within i j hi hj)
-        | yes e ↦ rw e (elim (ℕ-discrete i t) [
+    within : (i j : ℕ) → i < n → j < m → cell (taken (given g k w a) t w a) i j ≤ cell caps i j
+    within i j hi hj =
+        elim (ℕ-discrete j w) [
+          | no d ↦ omega (arith, other i j d, f .within i j hi hj)
+          | yes e ↦ rw e (elim (ℕ-discrete i t) [
             | yes q ↦ rw q (omega (arith, second .here, taker))
             | no d ↦ omega (arith, second .seats i w d, given-le g k w a i w, f .within i w hi hw)
           ])
-      ]
+        ]
 
-  pub shifted : Filled n m caps supplies (taken (given g k w a) t w a)
-  shifted = record {
-    shape = written-shaped 32 24 (given g k w a) shape₁ t w _ (omega arith) (omega arith);
-    within = within;
-    placed = λ j hj. elim (ℕ-discrete j w) [
-      | no d ↦ column-other n _ _ t w _ second j d ∙ column-other n _ _ k w _ first j d ∙ f .placed j hj
-      | yes e ↦
-          rw e (omega (arith, column-here n _ _ t w _ second ht, column-here n _ _ k w _ first hk, f .placed w hw))
-    ];
-    past-seats = λ i j h. second .seats i j (λ e. omega arith) ∙ first .seats i j (λ e. omega arith) ∙ f .past-seats i j h;
-    past-windows = λ i j h. other i j (λ e. omega arith) ∙ f .past-windows i j h;
-  }
+    pub shifted : Filled n m caps supplies (taken (given g k w a) t w a)
+    shifted = record {
+      shape = written-shaped 32 24 (given g k w a) shape₁ t w _ (omega arith) (omega arith);
+      within = within;
+      placed = λ j hj. elim (ℕ-discrete j w) [
+        | no d ↦ column-other n _ _ t w _ second j d ∙ column-other n _ _ k w _ first j d ∙ f .placed j hj
+        | yes e ↦
+            rw e (omega (arith, column-here n _ _ t w _ second ht, column-here n _ _ k w _ first hk, f .placed w hw))
+      ];
+      past-seats = λ i j h. second .seats i j (λ e. omega arith) ∙ first .seats i j (λ e. omega arith) ∙ f .past-seats i j h;
+      past-windows = λ i j h. other i j (λ e. omega arith) ∙ f .past-windows i j h;
+    }

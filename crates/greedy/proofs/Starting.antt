@@ -19,12 +19,12 @@ module _ (n m : ℕ) (caps : Grid) (supplies : List ℕ) (g : Grid) (f : Filled 
     feasible : Feasible I (cell g)
     feasible = record {
       within = λ i j a b.
-        let p : i < n = omega (arith, h .seats) in
-        let q : j < m = omega (arith, h .windows) in
-        omega (arith, f .within i j p q, h .cap i j p q);
+          let p : i < n = omega (arith, h .seats) in
+          let q : j < m = omega (arith, h .windows) in
+          omega (arith, f .within i j p q, h .cap i j p q);
       fits = λ j b.
-        let q : j < m = omega (arith, h .windows) in
-        omega (arith, together j q, h .supply j q);
+          let q : j < m = omega (arith, h .windows) in
+          omega (arith, together j q, h .supply j q);
     }
 
     -- a seat below its cap has the window's cells together below its caps together, so the supply is handed out
@@ -34,7 +34,7 @@ module _ (n m : ℕ) (caps : Grid) (supplies : List ℕ) (g : Grid) (f : Filled 
         let q : w .window < m = omega (arith, h .windows, w .in-window) in
         let below : cell g (w .seat) (w .window) < cell caps (w .seat) (w .window) = omega (arith, w .room, h .cap (w .seat) (w .window) p q) in
         let less =
-          sum-lt n (λ i. cell g i (w .window)) (λ i. cell caps i (w .window)) (w .seat) (λ i a. f .within i (w .window) a q) p below
+        sum-lt n (λ i. cell g i (w .window)) (λ i. cell caps i (w .window)) (w .seat) (λ i a. f .within i (w .window) a q) p below
         in
         omega (arith, f .placed (w .window) q, together (w .window) q, h .supply (w .window) q, w .left, less)
 

@@ -28,7 +28,14 @@ pub fn room(cell: u16, cap: u16) -> u16
 
 // Moves the credits asked for, or as many as the giver has and the taker has room for. `caps` are the taker's. A step outside the
 // book does nothing. So whoever asks, a sheet that is feasible and not wasteful stays so.
-pub fn shift(grid: &mut [[u16; 24]; 32], caps: [u16; 24], seats: usize, windows: usize, step: Step, amount: u16)
+pub fn shift(
+    grid: &mut [[u16; 24]; 32],
+    caps: [u16; 24],
+    seats: usize,
+    windows: usize,
+    step: Step,
+    amount: u16,
+)
     requires { ⌜ (seats ≤ 32) × (windows ≤ 24) ⌝ }
     ensures { λ _. ⌜ ((c : Grid) → getD c (step .taker) [] ≡ caps → Keeps seats windows c (now (grid .entry)) (now (grid .exit))) ⌝ }
 {

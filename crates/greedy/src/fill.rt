@@ -7,7 +7,13 @@ ghost use Rattle.greedy.specs.Fills.{Handed};
 use crate::cells::least;
 
 // Hands out one window's credits, seat by seat up to each cap, until none is left.
-pub fn fill_window(grid: &mut [[u16; 24]; 32], caps: &[[u16; 24]; 32], seats: usize, window: usize, supply: u16)
+pub fn fill_window(
+    grid: &mut [[u16; 24]; 32],
+    caps: &[[u16; 24]; 32],
+    seats: usize,
+    window: usize,
+    supply: u16,
+)
     requires { ⌜ (seats ≤ 32) × (window < 24) ⌝ }
     requires { ⌜ Shaped 32 24 (now grid) ⌝ }
     ensures { λ _. ⌜ Handed seats window (now (caps .entry)) supply (now (grid .entry)) (now (grid .exit)) ⌝ }
@@ -20,7 +26,12 @@ pub fn fill_window(grid: &mut [[u16; 24]; 32], caps: &[[u16; 24]; 32], seats: us
     }
 }
 
-pub fn fill(caps: &[[u16; 24]; 32], supplies: [u16; 24], seats: usize, windows: usize) -> [[u16; 24]; 32]
+pub fn fill(
+    caps: &[[u16; 24]; 32],
+    supplies: [u16; 24],
+    seats: usize,
+    windows: usize,
+) -> [[u16; 24]; 32]
     requires { ⌜ (seats ≤ 32) × (windows ≤ 24) ⌝ }
     ensures { λ r. ⌜ Filled seats windows (now (caps .entry)) supplies r ⌝ }
 {

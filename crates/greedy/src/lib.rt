@@ -2,12 +2,14 @@
 // already, which is not: whoever promises that looks for exchange paths again.
 ghost use Prim.Native.Nat.{_≤_};
 ghost use Rattle.greedy.specs.Starts.{Keeps, Started};
+
 mod cells;
 mod fill;
 mod order;
 mod push;
 mod search;
 mod sides;
+
 use masks::full;
 use masks::minus;
 

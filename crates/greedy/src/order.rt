@@ -72,7 +72,10 @@ pub fn lowest_receiver(heights: &[u32; 32], weights: &[u32; 32], set: u32) -> us
         }
         let i = lowest(rest);
         rest = remove_lowest(rest);
-        if precedes(next_credit(heights, weights, i), next_credit(heights, weights, best)) {
+        if precedes(
+            next_credit(heights, weights, i),
+            next_credit(heights, weights, best),
+        ) {
             best = i;
         }
     }
@@ -92,7 +95,10 @@ pub fn highest_donor(heights: &[u32; 32], weights: &[u32; 32], set: u32, seat: u
         }
         let i = lowest(rest);
         rest = remove_lowest(rest);
-        if precedes(last_credit(heights, weights, best), last_credit(heights, weights, i)) {
+        if precedes(
+            last_credit(heights, weights, best),
+            last_credit(heights, weights, i),
+        ) {
             best = i;
         }
     }
@@ -105,7 +111,11 @@ pub fn highest_donor(heights: &[u32; 32], weights: &[u32; 32], set: u32, seat: u
 pub fn wanted(receiver: Credit, donor: Credit) -> u16 {
     let gap = times(donor.height, receiver.weight) + donor.weight as u64;
     let level = times(receiver.height, donor.weight);
-    let level = if breaks_tie(receiver, donor) { level } else { level + 1 };
+    let level = if breaks_tie(receiver, donor) {
+        level
+    } else {
+        level + 1
+    };
     if gap <= level {
         return 0;
     }

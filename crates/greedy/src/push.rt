@@ -8,8 +8,8 @@ use crate::order::highest_donor;
 use crate::order::lowest_receiver;
 use crate::order::next_credit;
 use crate::order::wanted;
-use crate::search::reach;
 use crate::search::Tree;
+use crate::search::reach;
 
 // A receiver, a donor, the shortest paths from the receiver, how many credits the two would exchange, and who is done.
 pub struct Exchange {
@@ -37,7 +37,10 @@ pub fn choose(
     let receiver = lowest_receiver(heights, weights, set);
     let tree = reach(takers, givers, windows, receiver);
     let donor = highest_donor(heights, weights, tree.set, receiver);
-    let amount = wanted(next_credit(heights, weights, receiver), next_credit(heights, weights, donor));
+    let amount = wanted(
+        next_credit(heights, weights, receiver),
+        next_credit(heights, weights, donor),
+    );
     if amount < unit {
         return Exchange {
             receiver,
@@ -77,7 +80,13 @@ fn narrow(grid: &[[u16; 24]; 32], caps: &[[u16; 24]; 32], e: Exchange) -> u16
 }
 
 // Moves so many credits along the path, the donor's step first.
-pub fn push(grid: &mut [[u16; 24]; 32], caps: &[[u16; 24]; 32], seats: usize, windows: usize, e: Exchange)
+pub fn push(
+    grid: &mut [[u16; 24]; 32],
+    caps: &[[u16; 24]; 32],
+    seats: usize,
+    windows: usize,
+    e: Exchange,
+)
     requires { ⌜ (seats ≤ 32) × (windows ≤ 24) ⌝ }
     requires { ⌜ e .donor < 32 ⌝ }
     ensures { λ _. ⌜ Keeps seats windows (now (caps .entry)) (now (grid .entry)) (now (grid .exit)) ⌝ }

@@ -1,6 +1,7 @@
 // The seats that a receiver reaches by exchange paths, with a shortest path to each.
 ghost use mathlib.Core.Path.{_≡_};
 ghost use Prim.Native.Nat.{_≤_, _<_};
+use crate::cells::Step;
 use masks::full;
 use masks::insert;
 use masks::intersect;
@@ -9,7 +10,6 @@ use masks::minus;
 use masks::remove;
 use masks::remove_lowest;
 use masks::union;
-use crate::cells::Step;
 
 // A tree of shortest paths: the set reached, and for each seat of it but the receiver the window where it gives and who takes.
 pub struct Tree {

@@ -1,13 +1,19 @@
 // Who can take and who can give in each window, and how high each seat stands. Only room for `unit` credits counts, and only `unit`
 // credits held.
 ghost use Prim.Native.Nat.{_≤_, _<_};
-use masks::insert;
-use masks::remove;
 use crate::cells::room;
 use crate::push::Exchange;
+use masks::insert;
+use masks::remove;
 
 // The seats that have room in a window.
-fn takers_in(grid: &[[u16; 24]; 32], caps: &[[u16; 24]; 32], seats: usize, window: usize, unit: u16) -> u32
+fn takers_in(
+    grid: &[[u16; 24]; 32],
+    caps: &[[u16; 24]; 32],
+    seats: usize,
+    window: usize,
+    unit: u16,
+) -> u32
     requires { ⌜ (seats ≤ 32) × (window < 24) ⌝ }
 {
     let mut set = 0;
@@ -32,7 +38,13 @@ fn givers_in(grid: &[[u16; 24]; 32], seats: usize, window: usize, unit: u16) -> 
     set
 }
 
-pub fn takers(grid: &[[u16; 24]; 32], caps: &[[u16; 24]; 32], seats: usize, windows: usize, unit: u16) -> [u32; 32]
+pub fn takers(
+    grid: &[[u16; 24]; 32],
+    caps: &[[u16; 24]; 32],
+    seats: usize,
+    windows: usize,
+    unit: u16,
+) -> [u32; 32]
     requires { ⌜ (seats ≤ 32) × (windows ≤ 24) ⌝ }
 {
     let mut sets = [0u32; 32];
@@ -56,7 +68,11 @@ pub fn givers(grid: &[[u16; 24]; 32], seats: usize, windows: usize, unit: u16) -
 fn with(set: u32, seat: usize, on: bool) -> u32
     requires { ⌜ seat < 32 ⌝ }
 {
-    if on { insert(set, seat) } else { remove(set, seat) }
+    if on {
+        insert(set, seat)
+    } else {
+        remove(set, seat)
+    }
 }
 
 // Notes anew who can take and who can give along the path of an exchange.
@@ -79,7 +95,11 @@ pub fn renew(
         let step = tree.step(giver);
         let w = step.window;
         let t = step.taker;
-        let takes = with(takers[w], giver, unit <= room(grid[giver][w], caps[giver][w]));
+        let takes = with(
+            takers[w],
+            giver,
+            unit <= room(grid[giver][w], caps[giver][w]),
+        );
         takers[w] = with(takes, t, unit <= room(grid[t][w], caps[t][w]));
         let gives = with(givers[w], giver, unit <= grid[giver][w]);
         givers[w] = with(gives, t, unit <= grid[t][w]);
@@ -105,7 +125,13 @@ pub fn heights(grid: &[[u16; 24]; 32], bases: &[u32; 32], seats: usize, windows:
 }
 
 // Notes the two seats' heights anew.
-pub fn measure(heights: &mut [u32; 32], grid: &[[u16; 24]; 32], bases: &[u32; 32], windows: usize, e: Exchange)
+pub fn measure(
+    heights: &mut [u32; 32],
+    grid: &[[u16; 24]; 32],
+    bases: &[u32; 32],
+    windows: usize,
+    e: Exchange,
+)
     requires { ⌜ (windows ≤ 24) × ((e .receiver < 32) × (e .donor < 32)) ⌝ }
 {
     let r = e.receiver;

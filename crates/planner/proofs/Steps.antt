@@ -4,7 +4,9 @@ use mathlib.Core.Bool.{true}
 use mathlib.Core.List.{List, []}
 use mathlib.Core.Option.{Option, none, some}
 use Prim.Native.Nat.{ℕ, _≤_, _<_}
+use native.Mathlib.Decide.{decLe}
 use native.Mathlib.Omega.{arith}
+use lib.Dec.{ltb}
 use lib.ListN.{length, getD}
 use borrow.Author.Tests.{lt-ltb, le-ltb}
 use Rattle.fairness.specs.Instance.{Instance, Feasible}
@@ -19,7 +21,8 @@ use Rattle.dayfile.specs.Table.{Refusal, refuse, firstOf, line16, readLines, bu
 use Rattle.dayfile.specs.Outcome.{answer, unless}
 use Rattle.dayfile.specs.Memory.{Holds, held, sizedGrid, fileIn, front}
 use Rattle.dayfile.specs.declared.Book as Memory
-use Rattle.dayfile.proofs.Lines.{none-holds, stop-in, on-after}
+use Rattle.dayfile.specs.declared.Written as Written
+use Rattle.dayfile.proofs.Lines.{none-holds, none-parts, stop-in, on-after}
 use Rattle.dayfile.proofs.Tables.{sized-at, sized-row, sized-shaped}
 use Rattle.dayfile.proofs.Held.{held-book}
 use Rattle.dayfile.proofs.Lengths.{planned-length}
@@ -30,7 +33,7 @@ use Rattle.sheet.proofs.Cells.{credit-is}
 use Rattle.terms.specs.declared.Terms.{Terms}
 use Rattle.terms.specs.Terms.{instanceIn, Told, Ranged, Small}
 use Rattle.greedy.specs.Starts.{Started}
-use Rattle.planner.specs.Planning.{planFile, Planned}
+use Rattle.planner.specs.Planning.{planFile, Planned, Plans}
 
 -- an accepted file's book is in paper 01's ranges
 pub fit-of : (f : List ℕ) → firstOf (readLines f) ≡ none → Fit (bookOf f)
@@ -57,7 +60,46 @@ module _ (f : List ℕ) (room need : ℕ) (free : firstOf (readLines f) ≡ none
   unfolding bufferLines line16
   long-enough l = sym (lines-end ∙ rw (le-ltb room need l) refl)
 
+-- where no line of the planner's holds, none of the reader's does
+pub read-free : (f : List ℕ) (room : ℕ) → firstOf (planLines f room) ≡ none → firstOf (readLines f) ≡ none
+unfolding planLines
+read-free f room free = none-parts (readLines f) (bufferLines room (plannedLength (bookOf f))) free .0
+
+-- and the buffer is long enough
+pub room-enough : (f : List ℕ) (room : ℕ) → firstOf (planLines f room) ≡ none → plannedLength (bookOf f) ≤ room
+unfolding planLines bufferLines line16
+room-enough f room free = go (decLe (plannedLength (bookOf f)) room)
+  where
+    lines : firstOf (bufferLines room (plannedLength (bookOf f))) ≡ none
+    lines = none-parts (readLines f) (bufferLines room (plannedLength (bookOf f))) free .1
+
+    go : Dec (plannedLength (bookOf f) ≤ room) → plannedLength (bookOf f) ≤ room
+    go (yes l) = l
+    go (no q) =
+        let short : ltb room (plannedLength (bookOf f)) ≡ true = lt-ltb room (plannedLength (bookOf f)) (omega arith) in
+        absurd (let z : _≡_ {A = ℕ} 0 1 = cc (rw short at lines) in omega arith)
+
 -- ---- what is planned and written
+
+-- a refusal leaves the buffer as it was
+pub plan-refused : (f old : List ℕ) (n p : ℕ) → firstOf (planLines f (length old)) ≡ some (refuse n p) →
+    Plans f old old (Written.the-variants.Refused n p)
+unfolding planFile
+plan-refused f old n p e =
+    record {
+      says = ap (λ (o : Option Refusal). unless o (plannedLength (bookOf f))) (sym e);
+      buffer = rw e refl;
+    }
+
+-- the whole file
+pub plan-whole : (f old new : List ℕ) (n : ℕ) → firstOf (planLines f (length old)) ≡ none → n ≡ plannedLength (bookOf f) →
+    Planned (bookOf f) old new → Plans f old new (Written.the-variants.Whole n)
+unfolding planFile
+plan-whole f old new n e same planned =
+    record {
+      says = ap answer same ∙ ap (λ (o : Option Refusal). unless o (plannedLength (bookOf f))) (sym e);
+      buffer = rw e planned;
+    }
 
 module _ (b : Book) (m : Memory.Book) (fit : Fit b) (holds : Holds b m) where
   -- the used cells of a grid in memory

@@ -18,7 +18,7 @@ pub fn plan_check(file: &[u8], room: usize) -> Check
         return Check::Refused { number, at };
     }
     let book = reader::read_book(file);
-    let need = writer::file_length(book, true);
+    let need = store::file_length(book, true);
     if room < need {
         return Check::Refused {
             number: 16,
@@ -52,6 +52,6 @@ pub fn plan(file: &[u8], out: &mut [u8]) -> Written
     let book = reader::read_book(file);
     let caps = reader::read_caps(file);
     let sheet = planned_sheet(book, caps);
-    let length = writer::put_file(out, book, caps, true, sheet);
+    let length = store::put_file(out, book, caps, true, sheet);
     Written::Whole { length }
 }

@@ -1,64 +1,68 @@
+-- `planner::plan` meets its contract: what is checked, planned and written.
+use mathlib.Core.Path.{_≡_, refl, sym, ap, _∙_}
+use native.Mathlib.Nat.{le-trans, le-of-eq}
+use native.Mathlib.Omega.{arith}
 use borrow.Author.Needs.{needs}
+use Rattle.dayfile.specs.Layout.{bookOf}
+use Rattle.dayfile.proofs.Answers.{refuses, passes}
+use Rattle.planner.proofs.Steps.{fit-of, read-free, plan-refused, plan-whole, need-is, planned-is, room-enough}
 use Rattle.planner.proofs.plan.Statement.{statement}
 use Rattle.planner.proofs.plan.Tie as tie
-use Rattle.planner.proofs.plan.Reads as reads
-use Rattle.planner.proofs.plan.Lts as lts
-use Rattle.planner.proofs.plan_check.Reads as plan-check-reads
-use Rattle.planner.proofs.planned_sheet.Reads as planned-sheet-reads
-use Rattle.reader.proofs.read_book.Reads as read-book-reads
-use Rattle.reader.proofs.read_caps.Reads as read-caps-reads
-use Rattle.writer.proofs.put_file.Reads as put-file-reads
 
--- src/lib.rt:45:44
-plan-check-requires : tie.Need-plan-check-requires
-plan-check-requires c κs = search needs
-
--- src/lib.rt:45:29
-enum-known-number : tie.Need-enum-known-number
-enum-known-number c = search needs
-
--- src/lib.rt:46:9
 returns : tie.Need-returns
-returns c = search needs
+returns c = plan-refused _ _ _ _ (refuses (c .before .before .before .plan-check .ensures) (c .before .number .given .1))
 
-enum-told : tie.Need-enum-told
-enum-told c = search needs
-
--- src/lib.rt:48:9
-read-book-requires : tie.Need-read-book-requires
-read-book-requires c κs = search needs
-
--- src/lib.rt:49:9
-read-caps-requires : tie.Need-read-caps-requires
-read-caps-requires c κs = search needs
-
--- src/lib.rt:50:9
 planned-sheet-requires : tie.Need-planned-sheet-requires
-planned-sheet-requires c κs = search needs
+planned-sheet-requires c κs =
+    let read = c .before in
+    let free = passes (read .before .before .before .plan-check .ensures) (read .before .enum-told .given .1) in
+    record {
+      book = bookOf _;
+      fit = fit-of _ (read-free _ _ free);
+      holds = read .read-book .ensures;
+      caps-are = c .read-caps .ensures;
+    }
 
--- src/lib.rt:51:9
 put-file-requires : tie.Need-put-file-requires
-put-file-requires c κs = search needs
+put-file-requires c κs =
+    let sheet = c .before in
+    let caps = sheet .before in
+    let read = caps .before in
+    let free = passes (read .before .before .before .plan-check .ensures) (read .before .enum-told .given .1) in
+    let fit = fit-of _ (read-free _ _ free) in
+    let holds = read .read-book .ensures in
+    let long = need-is _ (read .read-book .result) fit holds (caps .read-caps .result) (sheet .planned-sheet .result) (caps .read-caps .ensures) in (
+      omega (arith, fit .seats-high, holds .seats-are),
+      omega (arith, fit .windows-high, holds .windows-are),
+      le-trans (le-of-eq long) (room-enough _ _ free),
+    )
 
--- src/lib.rt:42:1
-same-length : tie.Need-same-length
-same-length c = search needs
-
--- src/lib.rt:42:1
 returns-2 : tie.Need-returns-2
-returns-2 c = search needs
+returns-2 c =
+    let put = c .before .before in
+    let sheet = put .before .before in
+    let caps = sheet .before in
+    let read = caps .before in
+    let free = passes (read .before .before .before .plan-check .ensures) (read .before .enum-told .given .1) in
+    let fit = fit-of _ (read-free _ _ free) in
+    let holds = read .read-book .ensures in
+    let caps-are = caps .read-caps .ensures in
+    let grid = sheet .planned-sheet .result in
+    plan-whole _ _ _ _ free (put .put-file .ensures .0 ∙ need-is _ (read .read-book .result) fit holds (caps .read-caps .result) grid caps-are)
+    (planned-is _ (read .read-book .result) fit holds (caps .read-caps .result) grid caps-are
+    (sheet .planned-sheet .ensures _ holds caps-are) _ _ (put .put-file .ensures .1))
 
 pub plan-spec : {M : Type 1} → statement M
 plan-spec =
     tie.close
     (tie.spec
-    plan-check-requires
-    enum-known-number
+    (λ c κs. search needs)
+    (λ c. search needs)
     returns
-    enum-told
-    read-book-requires
-    read-caps-requires
+    (λ c. search needs)
+    (λ c κs. search needs)
+    (λ c κs. search needs)
     planned-sheet-requires
     put-file-requires
-    same-length
+    (λ c. search needs)
     returns-2)

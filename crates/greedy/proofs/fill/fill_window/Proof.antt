@@ -74,11 +74,10 @@ loop-again : tie.Need-loop-again Inv-loop μ-loop
 loop-again c =
     let b = c .before .before .before in
     let l = b .loop in
-    let h = l .inv .1 in
-    (
+    let h = l .inv .1 in (
       search needs,
       handed-more _ (b .before .args .caps .now) _ (b .before .args .grid .now) (l .i) (l .grid) (l .left) (c .least .result)
-      (search needs) (search needs) (c .least .ensures) (h .0) (h .1),
+          (search needs) (search needs) (c .least .ensures) (h .0) (h .1),
     )
 
 -- src/fill.rt:9:1

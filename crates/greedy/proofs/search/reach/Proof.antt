@@ -115,11 +115,10 @@ loop-less c = search needs
 
 -- src/search.rt:37:5
 loop-again : tie.Need-loop-again Inv-loop μ-loop
-loop-again c =
-    (
-      search needs,
-      ⊎-elim (λ w. omega arith) (⊎-elim (λ w. omega arith) (⊎-elim (λ w. omega arith) (λ w. omega arith))) (c .if1 .came),
-    )
+loop-again c = (
+  search needs,
+  ⊎-elim (λ w. omega arith) (⊎-elim (λ w. omega arith) (⊎-elim (λ w. omega arith) (λ w. omega arith))) (c .if1 .came),
+)
 
 -- src/search.rt:23:1
 returns-2 : tie.Need-returns-2 Inv-loop μ-loop
