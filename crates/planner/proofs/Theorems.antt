@@ -47,7 +47,9 @@ module _ (file before after : List ℕ) (r : Written) (plans : Plans file before
   module _ (none-hold : NoneHolds (planLines file (length before))) where
     planned-file : planFile file (length before) ≡ answer (plannedLength (bookOf file))
     unfolding planFile
-    planned-file = ap (λ (o : Option Refusal). unless o (plannedLength (bookOf file))) (none-first-of (planLines file (length before)) none-hold)
+    planned-file =
+        ap (λ (o : Option Refusal). unless o (plannedLength (bookOf file)))
+        (none-first-of (planLines file (length before)) none-hold)
 
     -- a settled sheet was planned, and its file stands at the buffer's front
     pub planned : Planned (bookOf file) before after
@@ -89,5 +91,6 @@ module _ (file before after : List ℕ) (r : Written) (plans : Plans file before
         (settled-highest (instanceOf (bookOf file)) (model.proper (bookOf file)) (cell (planned .sheet)) (planned .settled))
 
     -- and all settled sheets of the book have the planned totals
-    pub settled-totals : (s : Grid) → Settled (instanceOf (bookOf file)) (cell s) → totals (bookOf file) s ≡ totals (bookOf file) (planned .sheet)
+    pub settled-totals : (s : Grid) → Settled (instanceOf (bookOf file)) (cell s) →
+        totals (bookOf file) s ≡ totals (bookOf file) (planned .sheet)
     settled-totals s h = model.settled-totals (bookOf file) s (planned .sheet) h (planned .settled)

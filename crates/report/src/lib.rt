@@ -52,7 +52,11 @@ pub fn put_report(
 ) -> usize
     requires { ⌜ Fit (bookOf (now file)) × (listingMax ≤ length (now out)) ⌝ }
     requires { ⌜ (count ≤ 31) × (count * 3 ≤ length (now moves)) ⌝ }
-    ensures { λ r. ⌜ ((ms : List Move) → Agree (count * 3) (now (moves .entry)) (moveBytes ms) → Printed (now (out .entry)) (listingOf (bookOf (now (file .entry))) (sheetIn (now (file .entry))) (record { mark = mark; window = window; seat = seat; moves = count }) ms) (now (out .exit)) r) ⌝ }
+    ensures { λ r. ⌜ ((ms : List Move) → Agree (count * 3) (now (moves .entry)) (moveBytes ms) →
+        Printed (now (out .entry))
+        (listingOf (bookOf (now (file .entry))) (sheetIn (now (file .entry)))
+        (record { mark = mark; window = window; seat = seat; moves = count }) ms)
+        (now (out .exit)) r) ⌝ }
 {
     let book = reader::read_book(file);
     let seats = book.seats;

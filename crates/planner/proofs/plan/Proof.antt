@@ -31,7 +31,8 @@ put-file-requires c κs =
     let free = passes (read .before .before .before .plan-check .ensures) (read .before .enum-told .given .1) in
     let fit = fit-of _ (read-free _ _ free) in
     let holds = read .read-book .ensures in
-    let long = need-is _ (read .read-book .result) fit holds (caps .read-caps .result) (sheet .planned-sheet .result) (caps .read-caps .ensures) in (
+    let grid = sheet .planned-sheet .result in
+    let long = need-is _ (read .read-book .result) fit holds (caps .read-caps .result) grid (caps .read-caps .ensures) in (
       omega (arith, fit .seats-high, holds .seats-are),
       omega (arith, fit .windows-high, holds .windows-are),
       le-trans (le-of-eq long) (room-enough _ _ free),
@@ -48,7 +49,8 @@ returns-2 c =
     let holds = read .read-book .ensures in
     let caps-are = caps .read-caps .ensures in
     let grid = sheet .planned-sheet .result in
-    plan-whole _ _ _ _ free (put .put-file .ensures .0 ∙ need-is _ (read .read-book .result) fit holds (caps .read-caps .result) grid caps-are)
+    let need = need-is _ (read .read-book .result) fit holds (caps .read-caps .result) grid caps-are in
+    plan-whole _ _ _ _ free (put .put-file .ensures .0 ∙ need)
     (planned-is _ (read .read-book .result) fit holds (caps .read-caps .result) grid caps-are
     (sheet .planned-sheet .ensures _ holds caps-are) _ _ (put .put-file .ensures .1))
 

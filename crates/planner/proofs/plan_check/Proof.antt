@@ -22,7 +22,8 @@ file-length-requires c κs =
     (omega (arith, fit .seats-high, holds .seats-are), omega (arith, fit .windows-high, holds .windows-are))
 
 -- the length that is asked for is that of the planned file
-needed : (c : tie.After-file-length) → c .file-length .result ≡ plannedLength (bookOf (c .before .before .before .before .before .before .args .file .now))
+needed : (c : tie.After-file-length) →
+    c .file-length .result ≡ plannedLength (bookOf (c .before .before .before .before .before .before .args .file .now))
 needed c =
     let read = c .before in
     let file = read .before .before .before .before .before .args .file .now in
