@@ -1,0 +1,83 @@
+//! A plain Rust version of the library, written from paper 01 alone and sharing no line with the proved code.
+//! It serves as a second opinion on the proved library.
+//!
+//! Seats and windows count from 0 inside and from 1 in files, results and listings.
+//! Tests: `rustc -O --edition 2021 --test reference.rs && ./reference`.
+#![allow(dead_code, unused_imports)]
+
+#[path = "reference/day_file.rs"]
+mod day_file;
+#[path = "reference/exchange.rs"]
+mod exchange;
+#[path = "reference/listing.rs"]
+mod listing;
+#[path = "reference/marker.rs"]
+mod marker;
+#[path = "reference/planner.rs"]
+mod planner;
+
+#[cfg(test)]
+#[path = "reference/brute_force.rs"]
+mod brute_force;
+#[cfg(test)]
+#[path = "reference/tests.rs"]
+mod tests;
+
+pub use day_file::{read, write, Layout};
+pub use listing::listing;
+pub use marker::{feasible, mark, Marked};
+pub use planner::plan;
+
+/// The most seats and windows that a book has.
+pub const SEATS: usize = 32;
+pub const WINDOWS: usize = 24;
+
+/// The highest supply and the highest cap.
+pub const MOST_CREDITS: u16 = 4095;
+
+/// The weight of each class, class 1 first.
+pub const WEIGHTS: [u16; 8] = [1, 2, 3, 5, 8, 12, 20, 40];
+
+/// The marker's output buffer: 31 moves of three bytes.
+pub const MOVES_LENGTH: usize = 93;
+
+/// One number per seat and window; unused cells are 0.
+pub type Grid = [[u16; WINDOWS]; SEATS];
+
+/// The credits that each seat has in each window.
+pub type Sheet = Grid;
+
+/// What a day file says of its seats and windows, the sheet left aside.
+#[derive(Clone, Debug, PartialEq, Eq)]
+pub struct Book {
+    pub seats: usize,
+    pub windows: usize,
+    pub classes: [u16; SEATS],
+    pub supplies: [u16; WINDOWS],
+    pub caps: Grid,
+}
+
+impl Book {
+    /// A book of this size with nothing in it; every class is 1.
+    pub fn empty(seats: usize, windows: usize) -> Book {
+        let mut classes = [0; SEATS];
+        classes[..seats].fill(1);
+        Book { seats, windows, classes, supplies: [0; WINDOWS], caps: [[0; WINDOWS]; SEATS] }
+    }
+}
+
+/// Why a file, a book or an output buffer is turned away: number and offset of paper 01's table.
+#[derive(Clone, Copy, Debug, PartialEq, Eq)]
+pub struct Refusal {
+    pub number: u32,
+    pub offset: usize,
+}
+
+/// `Err` with this number and offset if the condition is met.
+fn refuse_if(condition: bool, number: u32, offset: usize) -> Result<(), Refusal> {
+    if condition {
+        Err(Refusal { number, offset })
+    } else {
+        Ok(())
+    }
+}

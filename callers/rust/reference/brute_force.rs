@@ -1,0 +1,193 @@
+//! Random books of up to 4 seats and 3 windows, set against trying every sheet and every exchange path.
+//! Nothing here uses the marker's or the planner's own search.
+
+use super::exchange::Move;
+use super::marker::mark_sheet;
+use super::planner::plan_sheet;
+use super::*;
+
+#[path = "../rng.rs"]
+mod rng;
+use rng::Rng;
+
+/// A book with few feasible sheets.
+fn small_book(rng: &mut Rng) -> Book {
+    let mut book = Book::empty(rng.between(1, 4), rng.between(1, 3));
+    let classes = if rng.once_in(3) { 8 } else { 2 };
+    let most = rng.between(1, 4);
+    for seat in 0..book.seats {
+        book.classes[seat] = rng.between(1, classes) as u16;
+        for window in 0..book.windows {
+            book.caps[seat][window] = if rng.once_in(5) { 0 } else { rng.between(1, most) as u16 };
+        }
+    }
+    for window in 0..book.windows {
+        book.supplies[window] = rng.between(0, most + 3) as u16;
+    }
+    book
+}
+
+/// Every way to hand out credits of one window: no cell above its cap, the sum not above the supply.
+fn columns(book: &Book, window: usize) -> Vec<Vec<u16>> {
+    let mut all = vec![vec![]];
+    for seat in 0..book.seats {
+        let longer = |column: Vec<u16>| {
+            let left = book.supplies[window] - column.iter().sum::<u16>();
+            let most = left.min(book.caps[seat][window]);
+            (0..=most).map(move |cell| [&column[..], &[cell]].concat())
+        };
+        all = all.into_iter().flat_map(longer).collect();
+    }
+    all
+}
+
+/// Every feasible sheet, or none if there are too many to try.
+fn feasible_sheets(book: &Book) -> Option<Vec<Sheet>> {
+    let columns: Vec<_> = (0..book.windows).map(|window| columns(book, window)).collect();
+    if columns.iter().map(Vec::len).product::<usize>() > 20_000 {
+        return None;
+    }
+    let mut all = vec![[[0; WINDOWS]; SEATS]];
+    for (window, columns) in columns.iter().enumerate() {
+        let with = |sheet: Sheet| {
+            columns.iter().map(move |column| {
+                let mut sheet = sheet;
+                column.iter().enumerate().for_each(|(seat, &cell)| sheet[seat][window] = cell);
+                sheet
+            })
+        };
+        all = all.into_iter().flat_map(with).collect();
+    }
+    Some(all)
+}
+
+fn totals(book: &Book, sheet: &Sheet) -> Vec<i64> {
+    sheet[..book.seats].iter().map(|row| row.iter().map(|&cell| cell as i64).sum()).collect()
+}
+
+fn weight(book: &Book, seat: usize) -> i64 {
+    WEIGHTS[book.classes[seat] as usize - 1] as i64
+}
+
+/// The levels, lowest first, all times 120: a multiple of every weight, so that whole numbers hold them.
+fn profile(book: &Book, sheet: &Sheet) -> Vec<i64> {
+    let totals = totals(book, sheet);
+    let mut levels: Vec<i64> = (0..book.seats).map(|seat| totals[seat] * 120 / weight(book, seat)).collect();
+    levels.sort();
+    levels
+}
+
+/// All exchange paths of a gainer that go on from these moves.
+fn paths_from(book: &Book, sheet: &Sheet, gainer: usize, moves: &mut Vec<Move>, all: &mut Vec<Vec<Move>>) {
+    let taker = moves.last().map_or(gainer, |last| last.giver as usize);
+    for giver in 0..book.seats {
+        if giver == gainer || moves.iter().any(|earlier| earlier.giver as usize == giver) {
+            continue;
+        }
+        for window in 0..book.windows {
+            if sheet[giver][window] > 0 && sheet[taker][window] < book.caps[taker][window] {
+                moves.push(Move { window: window as u8, giver: giver as u8, taker: taker as u8 });
+                all.push(moves.clone());
+                paths_from(book, sheet, gainer, moves, all);
+                moves.pop();
+            }
+        }
+    }
+}
+
+/// Paper 01's "improves" and "ties wrongly", in its own words.
+fn improves(book: &Book, totals: &[i64], gainer: usize, loser: usize) -> bool {
+    let left = totals[gainer] * weight(book, loser);
+    let right = (totals[loser] - 1) * weight(book, gainer);
+    left < right || left == right && weight(book, gainer) < weight(book, loser)
+}
+fn ties_wrongly(book: &Book, totals: &[i64], gainer: usize, loser: usize) -> bool {
+    weight(book, gainer) == weight(book, loser) && totals[loser] == totals[gainer] + 1 && gainer < loser
+}
+
+/// Gainer, loser and the fewest moves between them, by the search rule over all paths.
+fn chosen(book: &Book, sheet: &Sheet, test: impl Fn(usize, usize) -> bool) -> Option<(usize, usize, usize)> {
+    for gainer in 0..book.seats {
+        let mut all = Vec::new();
+        paths_from(book, sheet, gainer, &mut Vec::new(), &mut all);
+        let ends = all.iter().map(|path| (path[path.len() - 1].giver as usize, path.len()));
+        if let Some((loser, moves)) = ends.filter(|&(loser, _)| test(gainer, loser)).min() {
+            return Some((gainer, loser, moves));
+        }
+    }
+    None
+}
+
+/// Paper 01's mark of a feasible sheet with gainer, loser and number of moves where it has them.
+fn mark_by_the_rules(book: &Book, sheet: &Sheet) -> (Marked, Option<(usize, usize, usize)>) {
+    for window in 0..book.windows {
+        let placed: u16 = (0..book.seats).map(|seat| sheet[seat][window]).sum();
+        for seat in 0..book.seats {
+            if placed < book.supplies[window] && sheet[seat][window] < book.caps[seat][window] {
+                return (Marked { mark: 1, window: window as u32 + 1, seat: seat as u32 + 1, moves: 0 }, None);
+            }
+        }
+    }
+    let totals = totals(book, sheet);
+    let better = chosen(book, sheet, |gainer, loser| improves(book, &totals, gainer, loser)).map(|ends| (2, ends));
+    let tied = || chosen(book, sheet, |gainer, loser| ties_wrongly(book, &totals, gainer, loser)).map(|ends| (3, ends));
+    match better.or_else(tied) {
+        Some((mark, ends)) => (Marked { mark, moves: ends.2 as u32, ..Marked::default() }, Some(ends)),
+        None => (Marked { mark: 4, ..Marked::default() }, None),
+    }
+}
+
+/// Plays a path move by move; every move must be possible when its turn comes.
+fn play_all(book: &Book, sheet: &Sheet, path: &[Move]) -> Sheet {
+    let mut sheet = *sheet;
+    for m in path {
+        let (window, giver, taker) = m.places();
+        assert!(sheet[giver][window] > 0 && sheet[taker][window] < book.caps[taker][window]);
+        sheet[giver][window] -= 1;
+        sheet[taker][window] += 1;
+    }
+    sheet
+}
+
+/// The mark, the ends and the length of the path, and what playing it gives.
+fn check_sheet(book: &Book, sheet: &Sheet, best: &[i64], planned: &[i64]) -> u32 {
+    let (marked, path) = mark_sheet(book, sheet);
+    let (expected, ends) = mark_by_the_rules(book, sheet);
+    assert_eq!(marked, expected);
+    assert_eq!(path.len(), marked.moves as usize);
+    assert_eq!(path.first().map(|m| m.taker as usize), ends.map(|ends| ends.0));
+    assert_eq!(path.last().map(|m| m.giver as usize), ends.map(|ends| ends.1));
+    assert!(path.windows(2).all(|pair| pair[0].giver == pair[1].taker));
+    let after = play_all(book, sheet, &path);
+    assert_eq!(feasible(book, &after), Ok(()));
+    let before = profile(book, sheet);
+    assert_eq!(marked.mark >= 3, before == best, "passes exactly with the highest profile");
+    match marked.mark {
+        2 => assert!(profile(book, &after) > before),
+        3 => assert!(profile(book, &after) == before),
+        4 => assert_eq!(totals(book, sheet), planned, "all settled sheets have the planned totals"),
+        _ => (),
+    }
+    marked.mark
+}
+
+#[test]
+fn every_sheet_of_small_books() {
+    let mut rng = Rng::new(1);
+    let (mut books, mut marks) = (0, [0u32; 5]);
+    while books < 6000 {
+        let book = small_book(&mut rng);
+        let Some(sheets) = feasible_sheets(&book) else { continue };
+        let best = sheets.iter().map(|sheet| profile(&book, sheet)).max().unwrap();
+        let planned = plan_sheet(&book);
+        assert_eq!(mark_by_the_rules(&book, &planned).0.mark, 4);
+        assert_eq!(feasible(&book, &planned), Ok(()));
+        let planned = totals(&book, &planned);
+        for sheet in &sheets {
+            marks[check_sheet(&book, sheet, &best, &planned) as usize] += 1;
+        }
+        books += 1;
+    }
+    println!("{books} books; sheets with mark 1 to 4: {:?}", &marks[1..]);
+    assert!(marks[1..].iter().all(|&count| count > 1000));
+}

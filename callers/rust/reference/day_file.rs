@@ -1,0 +1,164 @@
+//! The day file: reader and writer.
+
+use super::{refuse_if, Book, Grid, Refusal, Sheet, MOST_CREDITS, SEATS, WEIGHTS, WINDOWS};
+
+/// Where the parts of a day file begin, and its length.
+#[derive(Clone, Copy, Debug)]
+pub struct Layout {
+    pub entries: usize,
+    pub classes: usize,
+    pub supplies: usize,
+    pub caps: usize,
+    pub sheet: usize,
+    pub length: usize,
+}
+
+impl Layout {
+    /// The layout of a file with that many seats and windows, with or without a sheet.
+    pub fn new(seats: usize, windows: usize, with_sheet: bool) -> Layout {
+        let entries = if with_sheet { 4 } else { 3 };
+        let classes = 2 + 6 * entries;
+        let supplies = classes + 2 * seats;
+        let caps = supplies + 2 * windows;
+        let sheet = caps + 2 * seats * windows;
+        let length = if with_sheet { sheet + 2 * seats * windows } else { sheet };
+        Layout { entries, classes, supplies, caps, sheet, length }
+    }
+}
+
+/// The fields of entry `i` of the contents lie here, two bytes each.
+fn kind_at(i: usize) -> usize {
+    2 + 6 * i
+}
+fn start_at(i: usize) -> usize {
+    kind_at(i) + 2
+}
+fn length_at(i: usize) -> usize {
+    kind_at(i) + 4
+}
+
+/// The field of two bytes at an offset, low byte first.
+fn field(file: &[u8], at: usize) -> usize {
+    u16::from_le_bytes([file[at], file[at + 1]]) as usize
+}
+
+/// Reads a day file: its book, and its sheet if it holds one.
+pub fn read(file: &[u8]) -> Result<(Book, Option<Sheet>), Refusal> {
+    let entries = check_contents(file)?;
+    let (seats, windows) = check_lengths(file, entries)?;
+    let layout = Layout::new(seats, windows, entries == 4);
+    let mut book = Book::empty(seats, windows);
+    read_row(&file[layout.classes..], &mut book.classes[..seats]);
+    read_row(&file[layout.supplies..], &mut book.supplies[..windows]);
+    read_grid(&file[layout.caps..], seats, windows, &mut book.caps);
+    check_values(&book, &layout)?;
+    if entries == 3 {
+        return Ok((book, None));
+    }
+    let mut sheet = [[0; WINDOWS]; SEATS];
+    read_grid(&file[layout.sheet..], seats, windows, &mut sheet);
+    Ok((book, Some(sheet)))
+}
+
+/// Refusals 1 to 6: the table of contents. Gives the number of entries.
+fn check_contents(file: &[u8]) -> Result<usize, Refusal> {
+    refuse_if(file.len() < 2, 1, file.len())?;
+    let entries = field(file, 0);
+    refuse_if(entries != 3 && entries != 4, 2, 0)?;
+    refuse_if(file.len() < 2 + 6 * entries, 3, file.len())?;
+    for i in 0..entries {
+        refuse_if(field(file, kind_at(i)) != i + 1, 4, kind_at(i))?;
+    }
+    let mut end = 2 + 6 * entries;
+    for i in 0..entries {
+        refuse_if(field(file, start_at(i)) != end, 5, start_at(i))?;
+        end += field(file, length_at(i));
+    }
+    refuse_if(end != file.len(), 6, file.len())?;
+    Ok(entries)
+}
+
+/// Refusals 7 to 9: the lengths of the bodies. Gives the numbers of seats and windows.
+fn check_lengths(file: &[u8], entries: usize) -> Result<(usize, usize), Refusal> {
+    let length = |i| field(file, length_at(i));
+    let is_count = |length: usize, most: usize| length >= 2 && length <= 2 * most && length % 2 == 0;
+    refuse_if(!is_count(length(0), SEATS), 7, length_at(0))?;
+    refuse_if(!is_count(length(1), WINDOWS), 8, length_at(1))?;
+    let (seats, windows) = (length(0) / 2, length(1) / 2);
+    for i in 2..entries {
+        refuse_if(length(i) != 2 * seats * windows, 9, length_at(i))?;
+    }
+    Ok((seats, windows))
+}
+
+/// Refusals 10 to 12: classes, supplies and caps, with the offsets of that layout.
+fn check_values(book: &Book, layout: &Layout) -> Result<(), Refusal> {
+    for (seat, &class) in book.classes[..book.seats].iter().enumerate() {
+        let known = class >= 1 && class as usize <= WEIGHTS.len();
+        refuse_if(!known, 10, layout.classes + 2 * seat)?;
+    }
+    for (window, &supply) in book.supplies[..book.windows].iter().enumerate() {
+        refuse_if(supply > MOST_CREDITS, 11, layout.supplies + 2 * window)?;
+    }
+    for (seat, caps) in book.caps[..book.seats].iter().enumerate() {
+        for (window, &cap) in caps[..book.windows].iter().enumerate() {
+            refuse_if(cap > MOST_CREDITS, 12, layout.caps + 2 * (seat * book.windows + window))?;
+        }
+    }
+    Ok(())
+}
+
+/// Fills a row with the fields at the front of the bytes.
+fn read_row(bytes: &[u8], row: &mut [u16]) {
+    for (value, pair) in row.iter_mut().zip(bytes.chunks_exact(2)) {
+        *value = u16::from_le_bytes([pair[0], pair[1]]);
+    }
+}
+
+/// Fills the used cells of a grid, seat by seat and within a seat window by window.
+fn read_grid(bytes: &[u8], seats: usize, windows: usize, grid: &mut Grid) {
+    for (row, bytes) in grid[..seats].iter_mut().zip(bytes.chunks_exact(2 * windows)) {
+        read_row(bytes, &mut row[..windows]);
+    }
+}
+
+/// Writes the day file of a book, with or without a sheet, to the front of `out` and gives its length.
+pub fn write(book: &Book, sheet: Option<&Sheet>, out: &mut [u8]) -> Result<usize, Refusal> {
+    refuse_if(book.seats < 1 || book.seats > SEATS, 7, length_at(0))?;
+    refuse_if(book.windows < 1 || book.windows > WINDOWS, 8, length_at(1))?;
+    let layout = Layout::new(book.seats, book.windows, sheet.is_some());
+    check_values(book, &layout)?;
+    refuse_if(out.len() < layout.length, 16, layout.length)?;
+    write_contents(book, &layout, out);
+    write_row(&book.classes[..book.seats], &mut out[layout.classes..]);
+    write_row(&book.supplies[..book.windows], &mut out[layout.supplies..]);
+    write_grid(&book.caps, book, &mut out[layout.caps..]);
+    if let Some(sheet) = sheet {
+        write_grid(sheet, book, &mut out[layout.sheet..]);
+    }
+    Ok(layout.length)
+}
+
+/// The table of contents: the number of entries, then kind, start and length of each.
+fn write_contents(book: &Book, layout: &Layout, out: &mut [u8]) {
+    let cells = 2 * book.seats * book.windows;
+    let starts = [layout.classes, layout.supplies, layout.caps, layout.sheet];
+    let lengths = [2 * book.seats, 2 * book.windows, cells, cells];
+    write_row(&[layout.entries as u16], out);
+    for i in 0..layout.entries {
+        let entry = [i as u16 + 1, starts[i] as u16, lengths[i] as u16];
+        write_row(&entry, &mut out[kind_at(i)..]);
+    }
+}
+
+fn write_row(row: &[u16], out: &mut [u8]) {
+    for (value, pair) in row.iter().zip(out.chunks_exact_mut(2)) {
+        pair.copy_from_slice(&value.to_le_bytes());
+    }
+}
+
+fn write_grid(grid: &Grid, book: &Book, out: &mut [u8]) {
+    for (row, out) in grid[..book.seats].iter().zip(out.chunks_exact_mut(2 * book.windows)) {
+        write_row(&row[..book.windows], out);
+    }
+}

@@ -1,0 +1,76 @@
+#!/usr/bin/env python3
+"""Makes the day files of this folder from their texts, and makes or checks their listings.
+
+  make.py                      NAME.txt -> NAME.day
+  make.py --check MARK PLAN    every NAME.day is that of its text, and both programs give the stored listings
+  make.py --listings MARK PLAN writes the listings anew
+
+MARK and PLAN are the commands of the two programs; both read a day file on standard input.
+NAME.listing is what MARK prints of NAME.day, and NAME.planned.listing what it prints of the file that PLAN makes of it.
+Cells of a planned sheet are free, but no line of its listing is: "placed" is the lesser of the supply and the caps
+together, all settled sheets have the same totals, and the mark is 4. Windows and middle seats of an exchange path are
+free too; the sheets here have one shortest path each.
+"""
+import pathlib
+import shlex
+import struct
+import subprocess
+import sys
+
+HERE = pathlib.Path(__file__).resolve().parent
+PARTS = ["classes", "supplies", "caps", "sheet"]
+
+
+def parse(text):
+    """The numbers of each part: a word opens a part, its numbers follow; '#' opens a comment."""
+    parts = {}
+    for line in text.splitlines():
+        for word in line.split("#")[0].split():
+            if word in PARTS:
+                numbers = parts[word] = []
+            else:
+                numbers.append(int(word))
+    return [parts[name] for name in PARTS if name in parts]
+
+
+def fields(numbers):
+    """Two bytes each, low byte first."""
+    return struct.pack("<%dH" % len(numbers), *numbers)
+
+
+def day_file(parts):
+    """The table of contents, then the bodies in the same order without gaps."""
+    contents, start = [len(parts)], 2 + 6 * len(parts)
+    for kind, numbers in enumerate(parts, start=1):
+        contents += [kind, start, 2 * len(numbers)]
+        start += 2 * len(numbers)
+    return fields(contents) + b"".join(map(fields, parts))
+
+
+def run(command, data):
+    return subprocess.run(shlex.split(command), input=data, stdout=subprocess.PIPE).stdout
+
+
+def outputs(day, mark, plan):
+    """The stored files of one example beside its text, by their endings."""
+    return {".day": day, ".listing": run(mark, day), ".planned.listing": run(mark, run(plan, day))}
+
+
+def main(arguments):
+    checking = arguments[:1] == ["--check"]
+    count = 0
+    for text in sorted(HERE.glob("*.txt")):
+        day = day_file(parse(text.read_text()))
+        files = outputs(day, *arguments[1:]) if arguments else {".day": day}
+        for ending, data in files.items():
+            path = text.with_suffix(ending)
+            if not checking:
+                path.write_bytes(data)
+            elif path.read_bytes() != data:
+                sys.exit("%s differs" % path.name)
+            count += 1
+    print("%d example files %s" % (count, "are as they should be" if checking else "written"))
+
+
+if __name__ == "__main__":
+    main(sys.argv[1:])
