@@ -24,6 +24,7 @@ pub enum Written {
 }
 
 // A book in memory, but for its caps: a field cannot be an array of arrays.
+#[repr(C)]
 pub struct Book {
     pub seats: usize,
     pub windows: usize,

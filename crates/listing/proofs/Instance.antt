@@ -8,7 +8,8 @@ use Rattle.fairness.specs.Instance.{placed, total}
 use Rattle.fairness.specs.Leximin.{table}
 use Rattle.fairness.specs.Exchange.{Move}
 use Rattle.model.specs.Book.{Book, Grid, cell, seats, windows, instanceOf, totals}
-use Rattle.model.specs.Marks.{Result}
+use Rattle.model.specs.Marks.{Result, moveBytes}
+use Rattle.model.proofs.Moves.{move-bytes-length}
 use Rattle.listing.specs.Listing.{
   windowLine,
   seatLine,
@@ -20,7 +21,6 @@ use Rattle.listing.specs.Listing.{
   bookLines,
   resultLines,
   listingText,
-  moveBytes,
   listingOf,
 }
 
@@ -89,11 +89,6 @@ listing-is {b} {s} r h =
     (h .written)
 
 -- moves that stand at a buffer's front
-move-bytes-length : (ms : List Move) → length (moveBytes ms) ≡ length ms * 3
-unfolding moveBytes
-move-bytes-length [] = refl
-move-bytes-length (m ∷ ms) = omega (arith, move-bytes-length ms)
-
 pub at-front : (ms : List Move) (rest : List ℕ) → Agree (length ms * 3) (moveBytes ms ++ rest) (moveBytes ms)
 at-front ms rest =
     record { entry = λ k h. List·getD-append (moveBytes ms) rest 0 k (omega (arith, move-bytes-length ms)) }

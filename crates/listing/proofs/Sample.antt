@@ -8,7 +8,7 @@ use Rattle.fairness.specs.Exchange.{Move, improves, tiesWrongly, improvesAt, ti
 use Rattle.model.specs.Lowest.{lowest}
 use Rattle.model.specs.Book.{Book, Grid, instanceOf, totals}
 use Rattle.model.specs.Search.{member, any, filter, canTake, grow, layer, reached, fewest, donorOf, firstReceiver, search}
-use Rattle.model.specs.Marks.{seatBelow, wastedWindow, markOf, resultOf}
+use Rattle.model.specs.Marks.{seatBelow, wastedWindow, markOf, resultOf, moveBytes}
 use Rattle.text.specs.Text.{ascii, digits, widthWithin, widthOf, decimal, fourDigits, openingTime}
 use Rattle.listing.specs.Listing.{
   labelled,
@@ -26,7 +26,6 @@ use Rattle.listing.specs.Listing.{
   bookLines,
   resultLines,
   listingText,
-  moveBytes,
   listingOf,
 }
 

@@ -10,7 +10,7 @@ use Rattle.fairness.specs.Instance.{placed}
 use Rattle.fairness.specs.Leximin.{table}
 use Rattle.fairness.specs.Exchange.{Move}
 use Rattle.model.specs.Book.{Book, Grid, cell, seats, windows, instanceOf, totals}
-use Rattle.model.specs.Marks.{Result}
+use Rattle.model.specs.Marks.{Result, moveBytes}
 use Rattle.text.specs.Text.{ascii, decimal, fourDigits, openingTime}
 
 -- ---- parts of a line
@@ -104,11 +104,6 @@ unfoldable pub listingText : (n m : ℕ) (classes supplies placed totals : List 
     → (mark window seat : ℕ) (moves : List ℕ) (count : ℕ) → List ℕ
 listingText n m classes supplies placed totals mark window seat moves count =
     bookLines n m classes supplies placed totals ++ resultLines mark window seat moves count
-
--- each move as three numbers, counted from 1
-unfoldable pub moveBytes : List Move → List ℕ
-moveBytes [] = []
-moveBytes (m ∷ ms) = (m .window + 1) ∷ (m .giver + 1) ∷ (m .taker + 1) ∷ moveBytes ms
 
 -- the listing of a book, a sheet, its mark's result and the moves that the marker wrote
 unfoldable pub listingOf : Book → Grid → Result → List Move → List ℕ

@@ -6,13 +6,13 @@ use native.Mathlib.Numerals.{add-one}
 use native.Mathlib.Omega.{arith}
 use lib.ListN.{length, take, drop, getD, set, length-append, length-map, length-take}
 use lib.Seq.{sets, sets-eq, take-suc, take-at, drop-at, drop-drop, length-take-le}
-use Rattle.fairness.specs.Exchange as fairness
 use Rattle.dayfile.specs.Memory.{front}
 use Rattle.sheet.specs.declared.Move.{Move}
 use Rattle.sheet.specs.Sheets.{moveOf}
 use Rattle.exchange.specs.declared.Route.{Route}
 use Rattle.exchange.specs.Search.{movesOf}
-use Rattle.marker.specs.Marking.{moveBytes}
+use Rattle.model.specs.Marks.{moveBytes}
+use Rattle.model.proofs.Moves.{move-bytes-length}
 use Rattle.marker.specs.Steps.{InByte, Writable}
 
 -- ---- bytes of lists of moves
@@ -20,11 +20,6 @@ use Rattle.marker.specs.Steps.{InByte, Writable}
 -- the bytes of the first i moves of an array
 abbrev pub coded : ℕ → List Move → List ℕ
 coded i ms = moveBytes (map moveOf (take i ms))
-
-length-bytes : (ms : List fairness.Move) → length (moveBytes ms) ≡ 3 * length ms
-unfolding moveBytes
-length-bytes [] = refl
-length-bytes (m ∷ ms) = omega (arith, length-bytes ms)
 
 bytes-append : (xs : List Move) (m : Move) →
     moveBytes (map moveOf (xs ++ (m ∷ []))) ≡ moveBytes (map moveOf xs) ++ ((m .window + 1) ∷ (m .giver + 1) ∷ (m .taker + 1) ∷ [])
@@ -35,7 +30,7 @@ bytes-append (x ∷ xs) m =
 
 length-coded : (i : ℕ) (ms : List Move) → i ≤ length ms → length (coded i ms) ≡ 3 * i
 length-coded i ms l =
-    length-bytes (map moveOf (take i ms)) ∙ ap (λ (n : ℕ). 3 * n) (length-map (take i ms) moveOf ∙ length-take-le i ms l)
+    move-bytes-length (map moveOf (take i ms)) ∙ ap (λ (n : ℕ). 3 * n) (length-map (take i ms) moveOf ∙ length-take-le i ms l)
 
 -- ---- no move yet, and one move more
 

@@ -6,7 +6,8 @@ use native.Mathlib.Omega.{arith}
 use lib.ListN.{length, drop}
 use Rattle.fairness.specs.Exchange.{Move}
 use Rattle.dayfile.specs.Memory.{front}
-use Rattle.marker.specs.Marking.{moveBytes, movesIn}
+use Rattle.model.specs.Marks.{moveBytes}
+use Rattle.marker.specs.Marking.{movesIn}
 
 -- a number counted from 1 and back
 less-one : (n : ℕ) → n + 1 - 1 ≡ n

@@ -7,7 +7,7 @@ use Prim.Native.Nat.{ℕ}
 use Rattle.fairness.specs.Exchange.{improvesAt, tiesAt}
 use Rattle.model.specs.Book.{Book, Grid, cell, instanceOf}
 use Rattle.model.specs.Search.{Found, search}
-use Rattle.model.specs.Marks.{Mark, improvable, tied, settled, resultOf}
+use Rattle.model.specs.Marks.{Mark, improvable, tied, settled, resultOf, moveBytes}
 use Rattle.dayfile.specs.Outcome.{answer}
 use Rattle.dayfile.specs.Memory.{front}
 use Rattle.exchange.specs.declared.Exchange.{Exchange}
@@ -17,7 +17,7 @@ use Rattle.exchange.specs.Search.{Answers, movesOf}
 use Rattle.exchange.proofs.Theorems.{search-found, search-nothing}
 use Rattle.marker.specs.declared.Marking.{Marking}
 use Rattle.marker.specs.declared.Marking.the-variants.{Improvable, Tied, Settled}
-use Rattle.marker.specs.Marking.{moveBytes, PathWritten}
+use Rattle.marker.specs.Marking.{PathWritten}
 use Rattle.marker.specs.Steps.{fairMark, MarkedAs}
 
 -- an answer that goes with a mark goes with the same mark under another name

@@ -8,7 +8,7 @@ use Rattle.fairness.specs.Exchange.{Move}
 use Rattle.model.specs.Lowest.{getOr}
 use Rattle.model.specs.Book.{Book, Grid}
 use Rattle.model.specs.Search.{Found, PathOn}
-use Rattle.model.specs.Marks.{Mark, wasteful, improvable, tied, settled, Result, markOf, resultOf}
+use Rattle.model.specs.Marks.{Mark, wasteful, improvable, tied, settled, Result, markOf, resultOf, moveBytes}
 use Rattle.dayfile.specs.Layout.{bookOf, sheetOf}
 use Rattle.dayfile.specs.Table.{Refusal, refuse, markLines}
 use Rattle.dayfile.specs.Outcome.{Outcome, turnedAway, answer, outcome}
@@ -38,11 +38,6 @@ results (turnedAway q) = turnedAway q
 results (answer m) = answer (resultOf m)
 
 -- ---- the output buffer
-
--- each move as three bytes, window, giver, taker, counted from 1; the receiver's (gainer's) move first
-unfoldable pub moveBytes : List Move → List ℕ
-moveBytes [] = []
-moveBytes (m ∷ ms) = (m .window + 1) ∷ (m .giver + 1) ∷ (m .taker + 1) ∷ moveBytes ms
 
 -- the first n moves that stand in a buffer
 unfoldable pub movesIn : ℕ → List ℕ → List Move

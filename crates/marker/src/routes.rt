@@ -7,7 +7,7 @@ ghost use Rattle.fairness.specs.Instance.{Instance};
 ghost use Rattle.dayfile.specs.Memory.{front};
 ghost use Rattle.exchange.specs.Search.{Answers, movesOf};
 ghost use Rattle.terms.specs.Terms.{Told, Shows, Ranged, Counted};
-ghost use Rattle.marker.specs.Marking.{moveBytes};
+ghost use Rattle.model.specs.Marks.{moveBytes};
 ghost use Rattle.marker.specs.Steps.{Writable};
 use exchange::Exchange;
 use exchange::Route;

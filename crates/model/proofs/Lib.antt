@@ -8,6 +8,7 @@ pub mod Sets
 pub mod Layers
 pub mod Meaning
 pub mod Marks
+pub mod Moves
 -- the theorems
 pub mod Agree
 pub mod Theorems

@@ -1,11 +1,12 @@
 -- The mark of a sheet: the first that holds of wasteful (1), improvable (2), tied (3), settled (4). Tied and settled pass.
 use mathlib.Core.Bool.{Bool, true, false, _&&_}
+use mathlib.Core.List.{List, [], _∷_}
 use mathlib.Core.Option.{Option, none, some}
 use Prim.Native.Nat.{ℕ, _+_, _≤_, _<_}
 use lib.Dec.{ltb}
 use lib.ListN.{getD}
 use Rattle.fairness.specs.Instance.{placed, Wasteful}
-use Rattle.fairness.specs.Exchange.{improvesAt, tiesAt, Improvable, Tied}
+use Rattle.fairness.specs.Exchange.{Move, improvesAt, tiesAt, Improvable, Tied}
 use Rattle.model.specs.Lowest.{lowest, isSome, orElse, andThen, getOr}
 use Rattle.model.specs.Book.{Book, Grid, cell, seats, windows, instanceOf}
 use Rattle.model.specs.Search.{Found, Picked, search}
@@ -71,6 +72,11 @@ resultOf (wasteful j i) = record { mark = 1; window = j + 1; seat = i + 1; moves
 resultOf (improvable f) = record { mark = 2; window = 0; seat = 0; moves = f .moves }
 resultOf (tied f) = record { mark = 3; window = 0; seat = 0; moves = f .moves }
 resultOf settled = record { mark = 4; window = 0; seat = 0; moves = 0 }
+
+-- a written chain: each move as three bytes, window, giver, taker, counted from 1; the receiver's (gainer's) move first
+unfoldable pub moveBytes : List Move → List ℕ
+moveBytes [] = []
+moveBytes (m ∷ ms) = (m .window + 1) ∷ (m .giver + 1) ∷ (m .taker + 1) ∷ moveBytes ms
 
 -- marks 3 and 4 pass
 abbrev pub passes : Mark → Bool

@@ -8,7 +8,7 @@ use Rattle.fairness.specs.Sums.{sum}
 use Rattle.fairness.specs.Exchange.{Move}
 use Rattle.fairness.proofs.Sums.{sum-eq}
 use Rattle.model.specs.Book.{Book, Grid, cell, seats, windows, instanceOf}
-use Rattle.model.specs.Marks.{Result}
+use Rattle.model.specs.Marks.{Result, moveBytes}
 use Rattle.dayfile.specs.Bounds.{Fit}
 use Rattle.dayfile.specs.Memory.{Holds, held, sized, sizedGrid}
 use Rattle.dayfile.specs.declared.Book as Memory
@@ -16,7 +16,7 @@ use Rattle.dayfile.proofs.Tables.{sized-at, sized-row}
 use Rattle.sheet.specs.declared.Sheet.{Sheet}
 use Rattle.sheet.specs.Sheets.{credit, gridOf}
 use Rattle.sheet.proofs.Cells.{credit-cell}
-use Rattle.listing.specs.Listing.{listingText, listingOf, moveBytes}
+use Rattle.listing.specs.Listing.{listingText, listingOf}
 use Rattle.listing.proofs.Instance.{Agree, listing-same, listing-is}
 
 -- a grid in memory has the cells of the grid that it holds

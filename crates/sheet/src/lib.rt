@@ -8,11 +8,13 @@ ghost use Rattle.model.specs.Book.{cell, Shaped};
 ghost use Rattle.sheet.specs.Sheets.{credit, gridOf, moveOf, Playable, Moved, Written};
 
 // A seat's cells, one for each window.
+#[repr(C)]
 pub struct Row {
     pub cells: [u16; 24],
 }
 
 // A row for each seat.
+#[repr(C)]
 pub struct Sheet {
     pub rows: [Row; 32],
 }
