@@ -1,8 +1,8 @@
 // Prints what the reader and the writer make of real bytes: K11 of paper 01 and its damaged forms, and its pairs "turned away and taken".
 use dayfile::Book;
 use sample::Sample;
-use sample::front;
 use sample::say_sample;
+use say::front;
 use say::say_cell;
 use say::say_check;
 use say::say_hex;
@@ -11,7 +11,6 @@ use say::say_text;
 use say::say_written;
 
 pub mod sample;
-pub mod say;
 
 // A file's name, and what the reader says of it.
 fn say_read(name: &[u8], file: &[u8]) {

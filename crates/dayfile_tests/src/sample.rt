@@ -2,11 +2,12 @@
 ghost use mathlib.Core.Path.{_≡_};
 ghost use Prim.Native.Nat.{_<_, _≤_};
 ghost use lib.ListN.{length, take};
-use super::say::say_check;
-use super::say::say_text;
-use super::say::say_written;
 use dayfile::Book;
 use dayfile::Written;
+use say::front;
+use say::say_check;
+use say::say_text;
+use say::say_written;
 
 pub struct Sample {
     pub seats: u8,
@@ -92,14 +93,6 @@ fn bytes_of(buf: &mut [u8], s: Sample) -> usize {
     let p = body(buf, p, n, s.class);
     let p = body(buf, p, m, s.supply);
     body(buf, p, k, s.cap)
-}
-
-// The first n bytes.
-pub fn front(s: &[u8], n: usize) -> &[u8]
-    requires { ⌜ n ≤ length (now s) ⌝ }
-    ensures { λ r. ⌜ now r ≡ take n (now (s .entry)) ⌝ }
-{
-    &s[..n]
 }
 
 // Whether the first n bytes of a buffer are the file.

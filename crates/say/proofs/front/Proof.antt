@@ -1,8 +1,8 @@
 use mathlib.Core.Path.{sym}
 use lib.Seq.{length-take-le}
 use borrow.Author.Needs.{needs}
-use Rattle.dayfile_tests.proofs.sample.front.Statement.{statement}
-use Rattle.dayfile_tests.proofs.sample.front.Tie as tie
+use Rattle.say.proofs.front.Statement.{statement}
+use Rattle.say.proofs.front.Tie as tie
 
 slice-aggregate-result : tie.Need-slice-aggregate-result
 slice-aggregate-result c = sym (length-take-le _ _ (search needs))

@@ -1,4 +1,7 @@
-// Text on the standard output.
+// What the test programs share: text on the standard output, and a look at the bytes of a buffer.
+ghost use mathlib.Core.Path.{_≡_};
+ghost use Prim.Native.Nat.{_≤_};
+ghost use lib.ListN.{length, take};
 use dayfile::Check;
 use dayfile::Written;
 
@@ -28,7 +31,7 @@ pub fn say_hex(bytes: &[u8]) {
     say_text(b"\n");
 }
 
-fn say_refusal(number: u8, at: usize) {
+pub fn say_refusal(number: u8, at: usize) {
     say_text(b"refused ");
     say_number(number as usize);
     say_text(b" at ");
@@ -56,4 +59,24 @@ pub fn say_written(w: Written) {
             say_number(length);
         }
     }
+}
+
+// The first n bytes.
+pub fn front(s: &[u8], n: usize) -> &[u8]
+    requires { ⌜ n ≤ length (now s) ⌝ }
+    ensures { λ r. ⌜ now r ≡ take n (now (s .entry)) ⌝ }
+{
+    &s[..n]
+}
+
+// Whether the bytes from an offset on all have one value.
+pub fn all_from(bytes: &[u8], at: usize, value: u8) -> bool {
+    let mut i = at;
+    while i < bytes.len() {
+        if bytes[i] != value {
+            return false;
+        }
+        i += 1;
+    }
+    true
 }
