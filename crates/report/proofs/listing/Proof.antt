@@ -17,8 +17,7 @@ put-report-requires c κs =
     let arm = c .before .before .before in
     let mark = arm .before .before .before in
     let said = ap told (arm .window .given .1) in
-    let little = few _ _ _ _ refl (mark .mark .ensures) _ said in
-    ((fit _ _ _ _ refl (mark .mark .ensures) _ said, search needs), (little, search needs))
+    ((fit _ _ _ _ refl (mark .mark .ensures) _ said, search needs), search needs)
 
 put-report-requires-2 : tie.Need-put-report-requires-2
 put-report-requires-2 c κs =
@@ -26,7 +25,7 @@ put-report-requires-2 c κs =
     let mark = arm .before .before .before in
     let said = ap told (arm .count .given .1) in
     let little = few _ _ _ _ refl (mark .mark .ensures) _ said in
-    ((fit _ _ _ _ refl (mark .mark .ensures) _ said, search needs), (little, search (needs, little)))
+    ((fit _ _ _ _ refl (mark .mark .ensures) _ said, search needs), search (needs, little))
 
 put-report-requires-3 : tie.Need-put-report-requires-3
 put-report-requires-3 c κs =
@@ -34,15 +33,14 @@ put-report-requires-3 c κs =
     let mark = arm .before .before .before in
     let said = ap told (arm .count2 .given .1) in
     let little = few _ _ _ _ refl (mark .mark .ensures) _ said in
-    ((fit _ _ _ _ refl (mark .mark .ensures) _ said, search needs), (little, search (needs, little)))
+    ((fit _ _ _ _ refl (mark .mark .ensures) _ said, search needs), search (needs, little))
 
 put-report-requires-4 : tie.Need-put-report-requires-4
 put-report-requires-4 c κs =
     let arm = c .before .before in
     let mark = arm .before .before .before in
     let said = ap told (arm .enum-told .given .1) in
-    let little = few _ _ _ _ refl (mark .mark .ensures) _ said in
-    ((fit _ _ _ _ refl (mark .mark .ensures) _ said, search needs), (little, search needs))
+    ((fit _ _ _ _ refl (mark .mark .ensures) _ said, search needs), search needs)
 
 -- ---- the text
 
