@@ -11,13 +11,6 @@ use texts::grid_in;
 pub mod marks;
 pub mod texts;
 
-// Marks the first bytes of a buffer.
-fn mark_front(name: &[u8], file: &[u8], length: usize, moves: &mut [u8]) {
-    if length <= file.len() {
-        say_mark(name, front(file, length), moves);
-    }
-}
-
 // Marks the file of a book with a sheet or without.
 fn mark_book(
     name: &[u8],
@@ -30,7 +23,7 @@ fn mark_book(
     let mut file = [0u8; 3210];
     let w = writer::write(&mut file, book, caps, there, sheet);
     if let Written::Whole { length } = w {
-        mark_front(name, &file, length, moves);
+        say_mark(name, front(&file, length), moves);
     } else {
         say_text(b"NO FILE\n");
     }

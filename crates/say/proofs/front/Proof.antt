@@ -8,4 +8,4 @@ slice-aggregate-result : tie.Need-slice-aggregate-result
 slice-aggregate-result c = sym (length-take-le _ _ (search needs))
 
 pub front-spec : {M : Type 1} → statement M
-front-spec = tie.close (tie.spec slice-aggregate-result (λ c. search needs))
+front-spec = tie.close (tie.spec slice-aggregate-result (λ c. search needs) (λ c. search needs))

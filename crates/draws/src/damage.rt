@@ -1,0 +1,169 @@
+// Files that are damaged, or made up of any small bodies.
+ghost use Prim.Native.Nat.{_≤_, _<_};
+use crate::below;
+use crate::offset;
+use crate::small::draw_cells;
+use crate::small::draw_small;
+use crate::up_to;
+use dayfile::Book;
+use dayfile::Written;
+use oracle::Small;
+use oracle::memory::book_of;
+use oracle::memory::grid_of;
+
+// A byte, if there is one at that offset.
+fn set(file: &mut [u8], at: usize, value: u8) {
+    if at < file.len() {
+        file[at] = value;
+    }
+}
+
+// A field whose high byte is 0.
+fn put(file: &mut [u8], at: usize, value: u8)
+    requires { ⌜ at < 1000 ⌝ }
+{
+    set(file, at, value);
+    set(file, at + 1, 0);
+}
+
+// Cells that are above their caps brought down to them.
+fn within(mut cells: [u16; 12], caps: [u16; 12]) -> [u16; 12] {
+    for k in 0..12usize {
+        if caps[k] < cells[k] {
+            cells[k] = caps[k];
+        }
+    }
+    cells
+}
+
+// The cells of a sheet, mostly within the caps.
+fn draw_sheet(state: &mut u32, s: Small) -> [u16; 12] {
+    let most = up_to(state, 3);
+    let cells = draw_cells(state, s.seats, s.windows, most);
+    if below(state, 4) == 0 {
+        return cells;
+    }
+    let caps = s.caps;
+    within(cells, caps)
+}
+
+// The file of a small book, mostly with a sheet.
+fn draw_written(state: &mut u32, file: &mut [u8]) -> usize {
+    let s = draw_small(state);
+    let small = s.caps;
+    let caps = grid_of(small);
+    let there = below(state, 4) != 0;
+    let sheet = grid_of(draw_sheet(state, s));
+    match writer::write(file, book_of(s), caps, there, sheet) {
+        Written::Whole { length } => length,
+        Written::Refused { number: _, at: _ } => 0,
+    }
+}
+
+// Contents whose starts are right, with bodies of any length below 6; the offset where the last body ends.
+fn draw_contents(state: &mut u32, file: &mut [u8], entries: u8) -> u8
+    requires { ⌜ entries ≤ 4 ⌝ }
+    ensures { λ r. ⌜ r ≤ 46 ⌝ }
+{
+    put(file, 0, entries);
+    let mut end = 2 + 6 * entries;
+    for e in 0..entries {
+        let at = 2 + 6 * e as usize;
+        let size = below(state, 6) as u8;
+        put(file, at, e + 1);
+        put(file, at + 2, end);
+        put(file, at + 4, size);
+        end += size;
+    }
+    end
+}
+
+// Bodies of small bytes.
+fn draw_bodies(state: &mut u32, file: &mut [u8], from: usize, to: usize) {
+    for at in from..to {
+        set(file, at, below(state, 4) as u8);
+    }
+}
+
+// A file made up of contents and any small bodies.
+fn draw_made(state: &mut u32, file: &mut [u8]) -> usize {
+    let entries = 3 + below(state, 2) as u8;
+    let end = draw_contents(state, file, entries) as usize;
+    draw_bodies(state, file, 2 + 6 * entries as usize, end);
+    end
+}
+
+// One byte of a file, from an offset on, gets a value below n.
+fn change(state: &mut u32, file: &mut [u8], from: usize, length: usize, n: u32)
+    requires { ⌜ (0 < n) × (n ≤ 256) ⌝ }
+{
+    if from < length {
+        let at = from + offset(state, length - from);
+        set(file, at, below(state, n) as u8);
+    }
+}
+
+// A file that is left as it is, cut, longer by a byte, or has a byte changed: anywhere, in the contents, or in the bodies. Its length.
+fn damage(state: &mut u32, file: &mut [u8], length: usize) -> usize {
+    let way = below(state, 6);
+    match way {
+        0 => length,
+        1 => offset(state, length),
+        2 => { if length < 100 { length + 1 } else { length } }
+        3 => {
+            change(state, file, 0, length, 256);
+            length
+        }
+        4 => {
+            change(state, file, 0, 26, 8);
+            length
+        }
+        _ => {
+            change(state, file, 20, length, 256);
+            length
+        }
+    }
+}
+
+// A damaged file at the front of a buffer, and its length.
+pub fn draw_file(state: &mut u32, file: &mut [u8]) -> usize {
+    if below(state, 4) == 0 {
+        return draw_made(state, file);
+    }
+    let length = draw_written(state, file);
+    damage(state, file, length)
+}
+
+// A book of a small one's numbers, in which one of them may be out of its range.
+pub fn damage_book(state: &mut u32, s: Small) -> Book {
+    let mut book = book_of(s);
+    let way = below(state, 5);
+    match way {
+        0 => {
+            book.seats = offset(state, 40);
+        }
+        1 => {
+            book.windows = offset(state, 30);
+        }
+        2 => {
+            let i = below(state, 4) as usize;
+            book.classes[i] = up_to(state, 9);
+        }
+        3 => {
+            let w = below(state, 3) as usize;
+            book.supplies[w] = 4094 + up_to(state, 3);
+        }
+        _ => {}
+    }
+    book
+}
+
+// Caps of which one may be out of its range.
+pub fn damage_caps(state: &mut u32, s: Small) -> [[u16; 24]; 32] {
+    let mut cells = s.caps;
+    if below(state, 4) == 0 {
+        let k = below(state, 12) as usize;
+        cells[k] = 4094 + up_to(state, 3);
+    }
+    grid_of(cells)
+}

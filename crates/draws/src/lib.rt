@@ -1,0 +1,39 @@
+// Random numbers, the same in every run: the next is 1,664,525 times the one before plus 1,013,904,223, remainder on 2^32.
+ghost use Prim.Native.Nat.{_≤_, _<_};
+use oracle::numbers::times;
+
+pub mod damage;
+pub mod full;
+pub mod small;
+
+// The product's remainder on 2^32.
+fn multiply(a: u32, b: u32) -> u32 {
+    (times(a, b) % 4294967296) as u32
+}
+
+// A number below n, of the upper half of the next one: the lower bits come round too early.
+pub fn below(state: &mut u32, n: u32) -> u32
+    requires { ⌜ 0 < n ⌝ }
+    ensures { λ r. ⌜ r < n ⌝ }
+{
+    let next = std::num::wrapping_add_u32(multiply(*state, 1664525), 1013904223);
+    *state = next;
+    next / 65536 % n
+}
+
+// A two-byte number that is at most `most`.
+pub fn up_to(state: &mut u32, most: u16) -> u16
+    ensures { λ r. ⌜ r ≤ most ⌝ }
+{
+    below(state, most as u32 + 1) as u16
+}
+
+// An offset below n; 0 where n is 0 or no two-byte number.
+pub fn offset(state: &mut u32, n: usize) -> usize
+    ensures { λ r. ⌜ r ≤ n ⌝ }
+{
+    if n == 0 || 65535 < n {
+        return 0;
+    }
+    below(state, n as u32) as usize
+}

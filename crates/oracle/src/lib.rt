@@ -1,0 +1,27 @@
+// A test oracle: paper 01's rules for small books, anew and in the plainest way. It shares no code with what it is held against.
+//
+// A book has up to 4 seats and 3 windows, a sheet 12 cells, 3 for each seat. Outside the book cells, caps and supplies are 0.
+pub mod memory;
+pub mod numbers;
+pub mod paths;
+pub mod rules;
+
+pub struct Small {
+    pub seats: usize,
+    pub windows: usize,
+    pub classes: [u16; 4],
+    pub supplies: [u16; 3],
+    pub caps: [u16; 12],
+}
+
+// The next sheet within the caps, as a number is counted up: false after the last one, and the cells are 0 again.
+pub fn next_sheet(cells: &mut [u16; 12], caps: &[u16; 12]) -> bool {
+    for k in 0..12usize {
+        if cells[k] < caps[k] {
+            cells[k] = std::num::wrapping_add_u16(cells[k], 1);
+            return true;
+        }
+        cells[k] = 0;
+    }
+    false
+}

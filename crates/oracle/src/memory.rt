@@ -1,0 +1,45 @@
+// Small books and sheets in the form that the library takes.
+use crate::Small;
+use dayfile::Book;
+
+// The book in memory, but for its caps.
+pub fn book_of(s: Small) -> Book {
+    let small = s.classes;
+    let mut classes = [0u16; 32];
+    for i in 0..4usize {
+        classes[i] = small[i];
+    }
+    let few = s.supplies;
+    let mut supplies = [0u16; 24];
+    supplies[0] = few[0];
+    supplies[1] = few[1];
+    supplies[2] = few[2];
+    Book {
+        seats: s.seats,
+        windows: s.windows,
+        classes,
+        supplies,
+    }
+}
+
+// Cells as the library's grid.
+pub fn grid_of(cells: [u16; 12]) -> [[u16; 24]; 32] {
+    let mut grid = [[0u16; 24]; 32];
+    for k in 0..12usize {
+        let i = k / 3;
+        let w = k % 3;
+        grid[i][w] = cells[k];
+    }
+    grid
+}
+
+// And back.
+pub fn cells_of(grid: [[u16; 24]; 32]) -> [u16; 12] {
+    let mut cells = [0u16; 12];
+    for k in 0..12usize {
+        let i = k / 3;
+        let w = k % 3;
+        cells[k] = grid[i][w];
+    }
+    cells
+}

@@ -1,0 +1,25 @@
+use Prim.Native.Nat.{_-_, _≤_}
+use borrow.Author.Needs.{needs}
+use Rattle.trials.proofs.full_books.Statement.{statement}
+use Rattle.trials.proofs.full_books.Tie as tie
+
+abbrev Inv-loop : tie.InvT-loop
+Inv-loop state₀ planned₀ counter₀ state planned counter = 0 ≤ counter
+
+abbrev μ-loop : tie.MeasureT-loop
+μ-loop state₀ planned₀ counter₀ state planned counter = 4294967296 - counter
+
+pub full-books-spec : {M : Type 1} → statement M
+full-books-spec =
+    tie.close
+    (tie.spec
+    Inv-loop
+    μ-loop
+    (λ c κs. search needs)
+    (λ c. search needs)
+    (λ c κs. search needs)
+    (λ c. search needs)
+    (λ c. search needs)
+    (λ c. search needs)
+    (λ c κs. search needs)
+    (λ c. search needs))
