@@ -4,7 +4,7 @@ ghost use mathlib.Core.Option.{none};
 ghost use mathlib.Core.Path.{_≡_};
 ghost use lib.ListN.{length};
 ghost use Rattle.dayfile.specs.Layout.{bookOf, sheetOf};
-ghost use Rattle.dayfile.specs.Outcome.{readFile};
+ghost use Rattle.dayfile.specs.Outcome.{answer, readFile};
 ghost use Rattle.dayfile.specs.Memory.{written, after};
 ghost use Rattle.marker.specs.Marking as marking;
 ghost use Rattle.planner.specs.Planning as planning;
@@ -141,28 +141,22 @@ pub extern "C" fn credits_write(book: CreditsBook, out: &mut [u8]) -> WriteResul
     ))
 }
 
-// The planned file, to the front of the buffer.
-#[no_mangle]
-pub extern "C" fn credits_plan(file: &[u8], out: &mut [u8]) -> WriteResult
-    ensures { λ r. ⌜ r ≡ writeResult (planning.planFile (now (file .entry)) (length (now (out .entry)))) ⌝ }
-    ensures { λ _. ⌜ planning.BufferAfter (bookOf (now (file .entry))) (planning.planFile (now (file .entry)) (length (now (out .entry))))
-        (now (out .entry)) (now (out .exit)) ⌝ }
-{
-    write_result(planner::plan(file, out))
-}
-
-// The mark of a file's sheet; the chain of marks 2 and 3 to the front of the buffer.
-#[no_mangle]
-pub extern "C" fn credits_mark(file: &[u8], moves: &mut [u8]) -> MarkResult
-    ensures { λ r. ⌜ r ≡ markResult (marking.results (marking.markFile (now (file .entry)) (length (now (moves .entry))))) ⌝ }
-    ensures { λ _. ⌜ marking.BufferAfter (bookOf (now (file .entry))) (marking.sheetIn (now (file .entry)))
-        (marking.markFile (now (file .entry)) (length (now (moves .entry)))) (now (moves .entry)) (now (moves .exit)) ⌝ }
-{
-    let m = marker::mark(file, moves);
-    mark_result(m)
-}
-
 // The numbers of a mark.
+fn marked(mark: u32, window: usize, seat: usize, moves: usize) -> MarkResult
+    requires { ⌜ Small (answer (record { mark = mark; window = window; seat = seat; moves = moves })) ⌝ }
+    ensures { λ r. ⌜ r ≡ markResult (answer (record { mark = mark; window = window; seat = seat; moves = moves })) ⌝ }
+{
+    MarkResult {
+        refusal: 0,
+        offset: 0,
+        mark,
+        window: window as u32,
+        seat: seat as u32,
+        moves: moves as u32,
+    }
+}
+
+// The numbers of what the marker answers.
 fn mark_result(m: Marking) -> MarkResult
     requires { ⌜ Small (marking.told m) ⌝ }
     ensures { λ r. ⌜ r ≡ markResult (marking.told m) ⌝ }
@@ -176,37 +170,29 @@ fn mark_result(m: Marking) -> MarkResult
             seat: 0,
             moves: 0,
         },
-        Marking::Wasteful { window, seat } => MarkResult {
-            refusal: 0,
-            offset: 0,
-            mark: 1,
-            window: window as u32,
-            seat: seat as u32,
-            moves: 0,
-        },
-        Marking::Improvable { moves } => MarkResult {
-            refusal: 0,
-            offset: 0,
-            mark: 2,
-            window: 0,
-            seat: 0,
-            moves: moves as u32,
-        },
-        Marking::Tied { moves } => MarkResult {
-            refusal: 0,
-            offset: 0,
-            mark: 3,
-            window: 0,
-            seat: 0,
-            moves: moves as u32,
-        },
-        Marking::Settled => MarkResult {
-            refusal: 0,
-            offset: 0,
-            mark: 4,
-            window: 0,
-            seat: 0,
-            moves: 0,
-        },
+        Marking::Wasteful { window, seat } => marked(1, window, seat, 0),
+        Marking::Improvable { moves } => marked(2, 0, 0, moves),
+        Marking::Tied { moves } => marked(3, 0, 0, moves),
+        Marking::Settled => marked(4, 0, 0, 0),
     }
+}
+
+// The mark of a file's sheet; the chain of marks 2 and 3 to the front of the buffer.
+#[no_mangle]
+pub extern "C" fn credits_mark(file: &[u8], moves: &mut [u8]) -> MarkResult
+    ensures { λ r. ⌜ r ≡ markResult (marking.results (marking.markFile (now (file .entry)) (length (now (moves .entry))))) ⌝ }
+    ensures { λ _. ⌜ marking.BufferAfter (bookOf (now (file .entry))) (marking.sheetIn (now (file .entry)))
+        (marking.markFile (now (file .entry)) (length (now (moves .entry)))) (now (moves .entry)) (now (moves .exit)) ⌝ }
+{
+    mark_result(marker::mark(file, moves))
+}
+
+// The planned file, to the front of the buffer.
+#[no_mangle]
+pub extern "C" fn credits_plan(file: &[u8], out: &mut [u8]) -> WriteResult
+    ensures { λ r. ⌜ r ≡ writeResult (planning.planFile (now (file .entry)) (length (now (out .entry)))) ⌝ }
+    ensures { λ _. ⌜ planning.BufferAfter (bookOf (now (file .entry))) (planning.planFile (now (file .entry)) (length (now (out .entry))))
+        (now (out .entry)) (now (out .exit)) ⌝ }
+{
+    write_result(planner::plan(file, out))
 }
