@@ -12,7 +12,13 @@ ghost use Rattle.listing.proofs.Instance.{Agree};
 ghost use Rattle.marker.specs.Marking.{sheetIn};
 ghost use Rattle.fairness.specs.Sums.{sum};
 ghost use Rattle.sheet.specs.Sheets.{credit};
+ghost use Rattle.report.specs.Report.{Lists};
+use dayfile::Written;
+use marker::Marking;
 use sheet::Sheet;
+
+// A buffer that takes every chain.
+const MOVES_MAX: usize = 93;
 
 // Each seat's total.
 pub fn totals(sheet: Sheet, seats: usize, windows: usize) -> [u32; 32]
@@ -80,4 +86,26 @@ pub fn put_report(
         moves,
         count,
     )
+}
+
+// The text that the program `mark` prints of a file, at the front of the buffer. A refusal of the file is a text as well: only a buffer that
+// could be too short for some listing is refused.
+pub fn listing(file: &[u8], out: &mut [u8]) -> Written
+    ensures { λ r. ⌜ Lists (now (file .entry)) (now (out .entry)) (now (out .exit)) r ⌝ }
+{
+    if out.len() < listing::LISTING_MAX {
+        return Written::Refused {
+            number: 16,
+            at: listing::LISTING_MAX,
+        };
+    }
+    let mut moves = [0u8; MOVES_MAX];
+    let length = match marker::mark(file, &mut moves) {
+        Marking::Refused { number, at } => listing::put_refusal(out, number as usize, at),
+        Marking::Wasteful { window, seat } => put_report(file, out, 1, window, seat, &moves, 0),
+        Marking::Improvable { moves: count } => put_report(file, out, 2, 0, 0, &moves, count),
+        Marking::Tied { moves: count } => put_report(file, out, 3, 0, 0, &moves, count),
+        Marking::Settled => put_report(file, out, 4, 0, 0, &moves, 0),
+    };
+    Written::Whole { length }
 }
