@@ -12,8 +12,10 @@ use Rattle.model.specs.Book.{Book, Grid}
 use Rattle.model.specs.Marks.{Result}
 use Rattle.dayfile.specs.Table.{writeLines}
 use Rattle.dayfile.specs.Outcome.{Outcome, turnedAway, answer, outcome}
-use Rattle.dayfile.specs.Memory.{Holds, held, heldIf, fileIn}
+use Rattle.dayfile.specs.Memory.{Holds, held, heldIf, fileIn, written}
+use Rattle.dayfile.specs.declared.Written.{Written}
 use Rattle.sheet.specs.Sheets.{gridOf}
+use Rattle.report.specs.Report.{Lists}
 use Rattle.credits.specs.declared.CreditsBook.{CreditsBook}
 use Rattle.credits.specs.declared.ReadResult.{ReadResult}
 use Rattle.credits.specs.declared.MarkResult.{MarkResult}
@@ -63,3 +65,11 @@ abbrev pub markResult : Outcome Result → MarkResult
 markResult (turnedAway q) = record { refusal = q .number; offset = q .at; mark = 0; window = 0; seat = 0; moves = 0 }
 markResult (answer m) =
     record { refusal = 0; offset = 0; mark = m .mark; window = m .window; seat = m .seat; moves = m .moves }
+
+-- ---- the listing
+
+-- what `Lists` says, in numbers
+pub record ListsAs (file before after : List ℕ) (r : WriteResult) : Type 0 where
+  pub answers : Written
+  pub lists : Lists file before after answers
+  pub numbers : r ≡ writeResult (written answers)

@@ -8,7 +8,7 @@ ghost use Rattle.dayfile.specs.Outcome.{answer, readFile};
 ghost use Rattle.dayfile.specs.Memory.{written, after};
 ghost use Rattle.marker.specs.Marking as marking;
 ghost use Rattle.planner.specs.Planning as planning;
-ghost use Rattle.credits.specs.Numbers.{noBook, Keeps, Reads, writeResult, fileFor, writeFile, markResult};
+ghost use Rattle.credits.specs.Numbers.{noBook, Keeps, Reads, writeResult, fileFor, writeFile, markResult, ListsAs};
 ghost use Rattle.credits.specs.Steps.{Small};
 use dayfile::Book;
 use dayfile::Check;
@@ -195,4 +195,12 @@ pub extern "C" fn credits_plan(file: &[u8], out: &mut [u8]) -> WriteResult
         (now (out .entry)) (now (out .exit)) ⌝ }
 {
     write_result(planner::plan(file, out))
+}
+
+// The text of a file and its mark, to the front of the buffer.
+#[no_mangle]
+pub extern "C" fn credits_listing(file: &[u8], out: &mut [u8]) -> WriteResult
+    ensures { λ r. ⌜ ListsAs (now (file .entry)) (now (out .entry)) (now (out .exit)) r ⌝ }
+{
+    write_result(report::listing(file, out))
 }
