@@ -8,7 +8,7 @@
  *   - a pointer points to as many bytes as the length after it says, readable, and writable where it is not const. With length 0 it may be NULL.
  *   - the bytes that a call writes overlap nothing that it reads.
  *   - results hold padding: compare them field by field.
- *   - about 64 KB of stack.
+ *   - 32 KB of stack.
  * Nothing else is asked: any bytes may be handed in as a file, any numbers as a book.
  *
  * Threads: the library has no global state. Calls may run at once as long as no two write to, or write and read, the same bytes.
