@@ -6,4 +6,4 @@ use Rattle.dayfile.specs.Outcome.{Outcome, turnedAway, answer}
 -- the numbers of a mark are small enough for 32 bits
 abbrev pub Small : Outcome Result → Type 0
 Small (turnedAway q) = Unit {0}
-Small (answer r) = (r .window ≤ 24) × (r .seat ≤ 32) × (r .moves ≤ 31)
+Small (answer r) = (r .window ≤ 32) × (r .seat ≤ 32) × (r .moves ≤ 32)

@@ -1,14 +1,12 @@
 // The library for C, Rust and Python: every public call, exported. What crosses is numbers, slices and #[repr(C)] structs of numbers, laid
-// out as include/credits.h says; what each call answers is given as numbers, by the definitions in specs/.
+// out as include/credits.h says. The contracts are in specs/Numbers.antt.
 ghost use mathlib.Core.Option.{none};
 ghost use mathlib.Core.Path.{_≡_};
-ghost use lib.ListN.{length};
+ghost use Prim.Native.Nat.{_≤_};
 ghost use Rattle.dayfile.specs.Layout.{bookOf, sheetOf};
-ghost use Rattle.dayfile.specs.Outcome.{answer, readFile};
-ghost use Rattle.dayfile.specs.Memory.{written, after};
-ghost use Rattle.marker.specs.Marking as marking;
-ghost use Rattle.planner.specs.Planning as planning;
-ghost use Rattle.credits.specs.Numbers.{noBook, Keeps, Reads, writeResult, fileFor, writeFile, markResult, ListsAs};
+ghost use Rattle.dayfile.specs.Memory.{written};
+ghost use Rattle.marker.specs.Marking.{told};
+ghost use Rattle.credits.specs.Numbers.{Keeps, noBook, ReadsAs, writeResult, WritesAs, markResult, MarksAs, PlansAs, ListsAs};
 ghost use Rattle.credits.specs.Steps.{Small};
 use dayfile::Book;
 use dayfile::Check;
@@ -52,6 +50,77 @@ pub struct MarkResult {
     pub moves: u32,
 }
 
+impl ReadResult {
+    fn new(refusal: u8, offset: usize, book: CreditsBook) -> ReadResult
+        ensures { λ r. ⌜ r ≡ record { refusal = refusal; offset = offset; book = book } ⌝ }
+    {
+        ReadResult {
+            refusal: refusal as u32,
+            offset,
+            book,
+        }
+    }
+}
+
+impl WriteResult {
+    fn new(refusal: u8, offset: usize, length: usize) -> WriteResult
+        ensures { λ r. ⌜ r ≡ record { refusal = refusal; offset = offset; length = length } ⌝ }
+    {
+        WriteResult {
+            refusal: refusal as u32,
+            offset,
+            length,
+        }
+    }
+
+    // What a call wrote, in numbers.
+    fn of(w: Written) -> WriteResult
+        ensures { λ r. ⌜ r ≡ writeResult (written w) ⌝ }
+    {
+        match w {
+            Written::Refused { number, at } => WriteResult::new(number, at, 0),
+            Written::Whole { length } => WriteResult::new(0, 0, length),
+        }
+    }
+}
+
+impl MarkResult {
+    fn new(
+        refusal: u8,
+        offset: usize,
+        mark: u32,
+        window: usize,
+        seat: usize,
+        moves: usize,
+    ) -> MarkResult
+        requires { ⌜ (window ≤ 32) × (seat ≤ 32) × (moves ≤ 32) ⌝ }
+        ensures { λ r. ⌜ r ≡ record { refusal = refusal; offset = offset; mark = mark; window = window; seat = seat; moves = moves } ⌝ }
+    {
+        MarkResult {
+            refusal: refusal as u32,
+            offset,
+            mark,
+            window: window as u32,
+            seat: seat as u32,
+            moves: moves as u32,
+        }
+    }
+
+    // What the marker says, in numbers.
+    fn of(m: Marking) -> MarkResult
+        requires { ⌜ Small (told m) ⌝ }
+        ensures { λ r. ⌜ r ≡ markResult (told m) ⌝ }
+    {
+        match m {
+            Marking::Refused { number, at } => MarkResult::new(number, at, 0, 0, 0, 0),
+            Marking::Wasteful { window, seat } => MarkResult::new(0, 0, 1, window, seat, 0),
+            Marking::Improvable { moves } => MarkResult::new(0, 0, 2, 0, 0, moves),
+            Marking::Tied { moves } => MarkResult::new(0, 0, 3, 0, 0, moves),
+            Marking::Settled => MarkResult::new(0, 0, 4, 0, 0, 0),
+        }
+    }
+}
+
 // A book with no seats, no windows and no sheet: all numbers are 0.
 fn no_book() -> CreditsBook
     ensures { λ r. ⌜ Keeps noBook none r ⌝ }
@@ -86,53 +155,28 @@ fn book_of(file: &[u8]) -> CreditsBook
     }
 }
 
+// ---- the calls, in the order of include/credits.h
+
 // The book and the sheet of a file.
 #[no_mangle]
 pub extern "C" fn credits_read(file: &[u8]) -> ReadResult
-    ensures { λ r. ⌜ Reads (readFile (now (file .entry))) r ⌝ }
+    ensures { λ r. ⌜ ReadsAs (now (file .entry)) r ⌝ }
 {
     if let Check::Refused { number, at } = reader::read_check(file) {
-        return ReadResult {
-            refusal: number as u32,
-            offset: at,
-            book: no_book(),
-        };
+        return ReadResult::new(number, at, no_book());
     }
-    ReadResult {
-        refusal: 0,
-        offset: 0,
-        book: book_of(file),
-    }
-}
-
-// The numbers of what a call wrote.
-fn write_result(w: Written) -> WriteResult
-    ensures { λ r. ⌜ r ≡ writeResult (written w) ⌝ }
-{
-    match w {
-        Written::Refused { number, at } => WriteResult {
-            refusal: number as u32,
-            offset: at,
-            length: 0,
-        },
-        Written::Whole { length } => WriteResult {
-            refusal: 0,
-            offset: 0,
-            length,
-        },
-    }
+    ReadResult::new(0, 0, book_of(file))
 }
 
 // The file of a book, to the front of the buffer.
 #[no_mangle]
 pub extern "C" fn credits_write(book: CreditsBook, out: &mut [u8]) -> WriteResult
-    ensures { λ r. ⌜ r ≡ writeResult (writeFile book (length (now (out .entry)))) ⌝ }
-    ensures { λ _. ⌜ now (out .exit) ≡ after (writeFile book (length (now (out .entry)))) (fileFor book) (now (out .entry)) ⌝ }
+    ensures { λ r. ⌜ WritesAs book (now (out .entry)) (now (out .exit)) r ⌝ }
 {
     let counts = book.counts;
     let caps = book.caps;
     let sheet = book.sheet;
-    write_result(writer::write(
+    WriteResult::of(writer::write(
         out,
         counts,
         caps.to_grid(),
@@ -141,60 +185,20 @@ pub extern "C" fn credits_write(book: CreditsBook, out: &mut [u8]) -> WriteResul
     ))
 }
 
-// The numbers of a mark.
-fn marked(mark: u32, window: usize, seat: usize, moves: usize) -> MarkResult
-    requires { ⌜ Small (answer (record { mark = mark; window = window; seat = seat; moves = moves })) ⌝ }
-    ensures { λ r. ⌜ r ≡ markResult (answer (record { mark = mark; window = window; seat = seat; moves = moves })) ⌝ }
-{
-    MarkResult {
-        refusal: 0,
-        offset: 0,
-        mark,
-        window: window as u32,
-        seat: seat as u32,
-        moves: moves as u32,
-    }
-}
-
-// The numbers of what the marker answers.
-fn mark_result(m: Marking) -> MarkResult
-    requires { ⌜ Small (marking.told m) ⌝ }
-    ensures { λ r. ⌜ r ≡ markResult (marking.told m) ⌝ }
-{
-    match m {
-        Marking::Refused { number, at } => MarkResult {
-            refusal: number as u32,
-            offset: at,
-            mark: 0,
-            window: 0,
-            seat: 0,
-            moves: 0,
-        },
-        Marking::Wasteful { window, seat } => marked(1, window, seat, 0),
-        Marking::Improvable { moves } => marked(2, 0, 0, moves),
-        Marking::Tied { moves } => marked(3, 0, 0, moves),
-        Marking::Settled => marked(4, 0, 0, 0),
-    }
-}
-
-// The mark of a file's sheet; the chain of marks 2 and 3 to the front of the buffer.
+// The mark of a file's sheet; the chain of marks 2 and 3, to the front of the buffer.
 #[no_mangle]
 pub extern "C" fn credits_mark(file: &[u8], moves: &mut [u8]) -> MarkResult
-    ensures { λ r. ⌜ r ≡ markResult (marking.results (marking.markFile (now (file .entry)) (length (now (moves .entry))))) ⌝ }
-    ensures { λ _. ⌜ marking.BufferAfter (bookOf (now (file .entry))) (marking.sheetIn (now (file .entry)))
-        (marking.markFile (now (file .entry)) (length (now (moves .entry)))) (now (moves .entry)) (now (moves .exit)) ⌝ }
+    ensures { λ r. ⌜ MarksAs (now (file .entry)) (now (moves .entry)) (now (moves .exit)) r ⌝ }
 {
-    mark_result(marker::mark(file, moves))
+    MarkResult::of(marker::mark(file, moves))
 }
 
 // The planned file, to the front of the buffer.
 #[no_mangle]
 pub extern "C" fn credits_plan(file: &[u8], out: &mut [u8]) -> WriteResult
-    ensures { λ r. ⌜ r ≡ writeResult (planning.planFile (now (file .entry)) (length (now (out .entry)))) ⌝ }
-    ensures { λ _. ⌜ planning.BufferAfter (bookOf (now (file .entry))) (planning.planFile (now (file .entry)) (length (now (out .entry))))
-        (now (out .entry)) (now (out .exit)) ⌝ }
+    ensures { λ r. ⌜ PlansAs (now (file .entry)) (now (out .entry)) (now (out .exit)) r ⌝ }
 {
-    write_result(planner::plan(file, out))
+    WriteResult::of(planner::plan(file, out))
 }
 
 // The text of a file and its mark, to the front of the buffer.
@@ -202,5 +206,5 @@ pub extern "C" fn credits_plan(file: &[u8], out: &mut [u8]) -> WriteResult
 pub extern "C" fn credits_listing(file: &[u8], out: &mut [u8]) -> WriteResult
     ensures { λ r. ⌜ ListsAs (now (file .entry)) (now (out .entry)) (now (out .exit)) r ⌝ }
 {
-    write_result(report::listing(file, out))
+    WriteResult::of(report::listing(file, out))
 }

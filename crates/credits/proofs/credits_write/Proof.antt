@@ -1,8 +1,6 @@
 -- `credits_write` meets its contract: the writer's, in numbers.
-use mathlib.Core.Path.{ap, _∙_}
 use borrow.Author.Needs.{needs}
-use Rattle.credits.specs.Numbers.{writeResult}
-use Rattle.credits.proofs.Laws.{writes-book}
+use Rattle.credits.proofs.Laws.{writes-as}
 use Rattle.credits.proofs.credits_write.Statement.{statement}
 use Rattle.credits.proofs.credits_write.Tie as tie
 
@@ -12,8 +10,7 @@ returns c =
     let sheet = put .before in
     let caps = sheet .before .before in
     let book = caps .before .before .before .before .before .before .args .book in
-    let writes = writes-book book _ _ (caps .to-grid .ensures) (sheet .to-grid2 .ensures) _ _ _ (put .write .ensures) in
-    (c .write-result .ensures ∙ ap writeResult (writes .says), writes .leaves)
+    writes-as book _ _ (caps .to-grid .ensures) (sheet .to-grid2 .ensures) _ _ _ (put .write .ensures) (c .of .ensures)
 
 pub credits-write-spec : {M : Type 1} → statement M
 credits-write-spec =
