@@ -1,17 +1,18 @@
-/* credits.h: libcredits, which shares out message credits fairly by trading window.
+/* credits.h: libcredits shares out message credits fairly by trading window.
  *
- * A day file holds a book (the seats' classes, the windows' supplies, a cap for each seat in each window) and perhaps a sheet (credits for
- * each seat in each window). Read one, write one, mark its sheet, plan the fairest sheet, list it as text. What each call does is proved
- * for every file, every book and every buffer: see crates/credits/src/lib.rt. All calls end; none allocates, prints or fails otherwise than by a refusal.
+ * A day file holds a book (the seats' classes, the windows' supplies, a cap for each seat in each window) and perhaps a sheet (credits
+ * for each seat in each window). The calls read one, write one, mark its sheet, plan the fairest sheet, and list it as text. What each
+ * call does is proved for every file, every book and every buffer; the contracts are in crates/credits/specs/Numbers.antt.
  *
  * What a caller owes, for every call:
- *   - a pointer points to as many bytes as the length after it says, readable, and writable where it is not const. With length 0 it may be NULL.
- *   - the bytes that a call writes overlap nothing that it reads.
- *   - results hold padding: compare them field by field.
+ *   - A pointer points to as many bytes as the length after it says. They may be read, and written where it is not const. With length 0
+ *     it may be NULL.
+ *   - The bytes that a call writes overlap nothing that it reads.
  *   - 32 KB of stack.
- * Nothing else is asked: any bytes may be handed in as a file, any numbers as a book.
+ * Nothing else is asked: any bytes may be handed in as a file, and any numbers as a book. Every call ends. None allocates, prints or stops
+ * the program. Results have padding, so they are to be compared field by field.
  *
- * Threads: the library has no global state. Calls may run at once as long as no two write to, or write and read, the same bytes.
+ * Threads: the library has no global state. Calls may run at once where none writes what another reads or writes.
  */
 #ifndef CREDITS_H
 #define CREDITS_H
@@ -29,7 +30,7 @@ extern "C" {
 #define CREDITS_MOVES_MAX 93     /* what credits_mark asks of its buffer, in bytes */
 #define CREDITS_LISTING_MAX 3453 /* what credits_listing asks of its buffer, in bytes */
 
-/* Why a call refused. Checks run in this order; the offset is where in the file, of the lowest such place. */
+/* Why a call refused, and the offset that it gives. Checks run in this order; within one the lowest offset counts. */
 enum {
     CREDITS_OK = 0,
     CREDITS_REFUSED_SHORT = 1,          /* under 2 bytes                                        file length */
@@ -55,7 +56,7 @@ enum {
     CREDITS_WASTEFUL = 1,   /* a window has credits left while a seat is below its cap there */
     CREDITS_IMPROVABLE = 2, /* a chain of moves makes the sheet fairer */
     CREDITS_TIED = 3,       /* as fair as can be, but a tie goes against the seat rule */
-    CREDITS_SETTLED = 4     /* as fair as can be */
+    CREDITS_SETTLED = 4     /* as fair as can be, and every tie goes by the seat rule */
 };
 
 /* A book in memory. Seats and windows count from 0 here; a cap or a credit is at [seat][window]. What credits_read gives has 0 in every

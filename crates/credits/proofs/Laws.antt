@@ -1,4 +1,4 @@
--- What is read, and how large the numbers of a mark can be. Assumes nothing.
+-- What the exported calls read, write and answer, and how large the numbers of a mark can be. Assumes nothing.
 use mathlib.Core.Path.{_≡_, refl, ap, _∙_}
 use mathlib.Core.Bool.{Bool, not}
 use mathlib.Core.List.{List, _++_}

@@ -1,5 +1,5 @@
--- What crosses to C: for each case of an answer paper 01's numbers and values. A refusal is its number and its offset, both 0 where there is
--- none; at a refusal every other number is 0.
+-- What crosses to C: for each case of an answer paper 01's numbers and values, and the contract of each exported call. A refusal is its
+-- number and its offset, both 0 where there is none; at a refusal every other number is 0.
 use mathlib.Core.Bool.{Bool, true, false, not}
 use mathlib.Core.List.{List, []}
 use mathlib.Core.Option.{Option, none}
