@@ -1,5 +1,5 @@
--- What is proved over the contracts of the marker and the planner holds of the exported calls: the numbers they give are those of an answer
--- that meets these contracts.
+-- What is proved over the contracts `Writes`, `Marks` and `Plans` holds of the exported calls: the numbers that these give are those of an
+-- answer that meets that contract. (`ListsAs` says it of `Lists` by itself, and `ReadsAs` is about the file alone.)
 -- Assumes nothing.
 use mathlib.Core.List.{List}
 use mathlib.Core.Path.{_≡_, refl, sym, ap, _∙_}
@@ -7,14 +7,16 @@ use Prim.Native.Nat.{ℕ, _+_}
 use lib.ListN.{length}
 use Rattle.model.specs.Marks.{Mark, wasteful, improvable, tied, settled}
 use Rattle.dayfile.specs.Outcome.{Outcome, turnedAway, answer}
-use Rattle.dayfile.specs.Memory.{written}
+use Rattle.dayfile.specs.Table.{writeLines}
+use Rattle.dayfile.specs.Memory.{written, Writes}
 use Rattle.dayfile.specs.declared.Written as Written
 use Rattle.marker.specs.Marking.{markFile, told, results, Marks}
 use Rattle.marker.specs.declared.Marking as Marking
 use Rattle.planner.specs.Planning.{planFile, Plans}
+use Rattle.credits.specs.declared.CreditsBook.{CreditsBook}
 use Rattle.credits.specs.declared.WriteResult.{WriteResult}
 use Rattle.credits.specs.declared.MarkResult.{MarkResult}
-use Rattle.credits.specs.Numbers.{writeResult, markResult, MarksAs, PlansAs}
+use Rattle.credits.specs.Numbers.{writeResult, fileFor, writeFile, WritesAs, markResult, MarksAs, PlansAs}
 use Rattle.credits.proofs.Laws.{Told, wrote, marked}
 
 -- the answer that says an outcome
@@ -39,6 +41,17 @@ sayingLength (answer n) = Written.the-variants.Whole n
 says-length : (o : Outcome ℕ) → written (sayingLength o) ≡ o
 says-length (turnedAway q) = refl
 says-length (answer n) = refl
+
+module _ {c : CreditsBook} {before end : List ℕ} where
+  pub write-answers : {r : WriteResult} → WritesAs c before end r →
+      Told wrote (λ (w : Written.Written). Writes (writeLines (fileFor c)) (fileFor c) before w end) r
+  write-answers h =
+      let o = writeFile c (length before) in
+      record {
+        answers = sayingLength o;
+        holds = record { says = says-length o; leaves = h .buffer };
+        says = h .says ∙ ap writeResult (sym (says-length o));
+      }
 
 module _ {file before end : List ℕ} where
   pub mark-answers : {r : MarkResult} → MarksAs file before end r → Told marked (Marks file before end) r

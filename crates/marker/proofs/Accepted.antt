@@ -1,7 +1,7 @@
 -- A file that the marker does not refuse holds a lawful sheet of its book. Assumes nothing.
 use mathlib.Core.Path.{_≡_, refl, ap, subst, _∙_}
-use mathlib.Core.Bool.{Bool, true, false, not}
-use mathlib.Core.List.{List, [], _∷_, _++_}
+use mathlib.Core.Bool.{Bool, not}
+use mathlib.Core.List.{List}
 use mathlib.Core.Option.{Option, none, some}
 use Prim.Native.Nat.{ℕ, _+_, _*_, _/_, _%_, _≤_, _<_}
 use native.Mathlib.Nat.{mul-zero, mod-lt, div-lt-iff-lt-mul, div-add-mod'}
@@ -9,23 +9,20 @@ use native.Mathlib.Decide.{decLt}
 use native.Mathlib.Omega.{arith}
 use lib.Arith.{digits-lt}
 use lib.Dec.{ltb}
-use lib.ListN.{length, getD}
+use lib.ListN.{getD}
 use borrow.Author.Tests.{ltb-false, le-ltb}
 use Rattle.fairness.specs.Sums.{sum}
-use Rattle.fairness.specs.Instance.{Feasible}
 use Rattle.fairness.proofs.Sums.{sum-eq}
-use Rattle.model.specs.Lowest.{lowest, andThen, isSome, getOr, when}
-use Rattle.model.specs.Book.{Book, Grid, SheetOf, Lawful, cell, seats, windows, instanceOf}
-use Rattle.model.specs.Marks.{Mark, markOf}
+use Rattle.model.specs.Lowest.{isSome, when}
+use Rattle.model.specs.Book.{Grid, SheetOf, Lawful, cell, seats, windows, instanceOf}
 use Rattle.model.proofs.Lowest.{lowest-none, lowest-fails}
 use Rattle.dayfile.specs.Layout.{field, start, seatsIn, windowsIn, entryOf, gridAt, bookOf, sheetOf}
-use Rattle.dayfile.specs.Table.{Line, Refusal, line, firstOf, offset, line13, line14, line15, cellAt, placedIn}
-use Rattle.dayfile.specs.Table.{markerLines, bufferLines, markLines, readLines}
-use Rattle.dayfile.specs.Outcome.{Outcome, turnedAway, answer, unless, outcome, NoneHolds}
-use Rattle.dayfile.proofs.Lines.{none-holds, none-parts}
+use Rattle.dayfile.specs.Table.{Refusal, offset, line13, line14, line15, cellAt, placedIn}
+use Rattle.dayfile.specs.Table.{markerLines}
+use Rattle.dayfile.specs.Outcome.{answer, unless, NoneHolds}
 use Rattle.dayfile.proofs.Search.{offset-none}
 use Rattle.dayfile.proofs.Fields.{fields-length, fields-at, grid-cell, grid-shaped}
-use Rattle.marker.specs.Marking.{sheetIn, markFile}
+use Rattle.marker.specs.Marking.{sheetIn}
 
 -- an answer means that no line holds
 pub answered : {A : Type 0} (o : Option Refusal) (x y : A) → unless o x ≡ answer y → (o ≡ none) × (x ≡ y)

@@ -4,14 +4,13 @@ use mathlib.Core.List.{List, [], _∷_, _++_, map}
 use Prim.Native.Nat.{ℕ, zero, suc, _+_, _*_, _≤_, _<_}
 use native.Mathlib.Numerals.{add-one}
 use native.Mathlib.Omega.{arith}
-use lib.ListN.{length, take, drop, getD, set, length-append, length-map, length-take}
+use lib.ListN.{length, take, drop, getD, set, length-map, length-take}
 use lib.Seq.{sets, sets-eq, take-suc, take-at, drop-at, drop-drop, length-take-le}
 use Rattle.fairness.specs.Exchange as fairness
 use Rattle.dayfile.specs.Memory.{front}
 use Rattle.sheet.specs.declared.Move.{Move}
 use Rattle.sheet.specs.Sheets.{moveOf}
 use Rattle.exchange.specs.declared.Route.{Route}
-use Rattle.exchange.specs.Search.{movesOf}
 use Rattle.model.specs.Marks.{moveBytes}
 use Rattle.model.proofs.Moves.{move-bytes-length}
 use Rattle.marker.specs.Steps.{InByte, Writable}

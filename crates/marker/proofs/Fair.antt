@@ -1,14 +1,12 @@
 -- Marks 2 to 4 from the answers of the two searches. Assumes nothing.
-use mathlib.Core.Path.{_≡_, refl, sym, ap, _∙_}
+use mathlib.Core.Path.{_≡_, refl}
 use mathlib.Core.Bool.{true, false}
 use mathlib.Core.List.{List}
-use mathlib.Core.Option.{none, some}
+use mathlib.Core.Option.{some}
 use Prim.Native.Nat.{ℕ}
-use Rattle.fairness.specs.Exchange.{improvesAt, tiesAt}
 use Rattle.model.specs.Book.{Book, Grid, cell, instanceOf}
-use Rattle.model.specs.Search.{Found, search}
-use Rattle.model.specs.Marks.{Mark, improvable, tied, settled, resultOf, moveBytes}
-use Rattle.dayfile.specs.Outcome.{answer}
+use Rattle.model.specs.Search.{Found}
+use Rattle.model.specs.Marks.{Mark, improvable, tied, settled, moveBytes}
 use Rattle.dayfile.specs.Memory.{front}
 use Rattle.exchange.specs.declared.Exchange.{Exchange}
 use Rattle.exchange.specs.declared.Rule.{Rule}

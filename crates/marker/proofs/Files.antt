@@ -9,7 +9,7 @@ use lib.Dec.{ltb}
 use Rattle.model.specs.Book.{Grid}
 use Rattle.model.specs.Marks.{markOf}
 use Rattle.dayfile.specs.Layout.{bookOf, sheetOf}
-use Rattle.dayfile.specs.Table.{Line, refuse, firstOf, readLines, markerLines, bufferLines, markLines, line16}
+use Rattle.dayfile.specs.Table.{refuse, firstOf, readLines, markerLines, bufferLines, markLines, line16}
 use Rattle.dayfile.specs.Memory.{Holds, held, heldIf}
 use Rattle.dayfile.specs.declared.Book as Memory
 use Rattle.dayfile.proofs.Lines.{none-holds, none-parts}

@@ -6,5 +6,6 @@ pub mod Fair
 pub mod Memory
 pub mod Files
 -- demands 1 and 3
+pub mod Taken
 pub mod Decode
 pub mod Theorems

@@ -1,19 +1,16 @@
 -- A book and a sheet in memory: what the search for waste and the search for exchanges ask of them. Assumes nothing.
 use mathlib.Core.Path.{_≡_, refl, sym, ap, subst, _∙_}
-use mathlib.Core.List.{List, []}
-use mathlib.Core.Option.{none, some}
-use Prim.Native.Nat.{ℕ, _+_, _≤_, _<_}
+use mathlib.Core.List.{List}
+use Prim.Native.Nat.{ℕ, _+_, _<_}
 use native.Mathlib.Omega.{arith}
 use lib.ListN.{getD}
-use Rattle.model.specs.Lowest.{lowest}
 use Rattle.model.specs.Book.{Book, Grid, cell, seats, windows, instanceOf}
-use Rattle.model.specs.Marks.{Mark, wasteful, seatBelow, wastedWindow, markOf}
+use Rattle.model.specs.Marks.{wasteful, seatBelow, wastedWindow, markOf}
 use Rattle.model.proofs.Lowest.{lowest-some}
-use Rattle.dayfile.specs.Memory.{held}
 use Rattle.dayfile.specs.declared.Book as Memory
 use Rattle.dayfile.proofs.Tables.{sized-at}
 use Rattle.sheet.specs.declared.Sheet.{Sheet}
-use Rattle.sheet.specs.Sheets.{credit, gridOf}
+use Rattle.sheet.specs.Sheets.{credit}
 use Rattle.sheet.proofs.Cells.{credit-cell}
 use Rattle.terms.specs.declared.Terms.{Terms}
 use Rattle.terms.specs.Terms.{Told, Shows, Counted}

@@ -2,7 +2,7 @@
 use mathlib.Core.Path.{_≡_, refl}
 use mathlib.Core.Bool.{true}
 use mathlib.Core.List.{List, [], _∷_}
-use Prim.Native.Nat.{ℕ, _≤_, _<_}
+use Prim.Native.Nat.{ℕ, _≤_}
 use native.Mathlib.Omega.{arith}
 use Rattle.fairness.specs.Instance.{Instance}
 use Rattle.fairness.specs.Exchange.{Move, All, Possible}
@@ -14,7 +14,7 @@ use Rattle.exchange.specs.declared.Exchange.{Exchange}
 use Rattle.exchange.specs.declared.Rule.{Rule}
 use Rattle.exchange.specs.Search.{Answers, movesOf}
 use Rattle.terms.specs.declared.Terms.{Terms}
-use Rattle.terms.specs.Terms.{instanceIn, Told, Shows, Ranged}
+use Rattle.terms.specs.Terms.{instanceIn, Shows, Ranged}
 use Rattle.marker.specs.Steps.{InByte, Writable}
 
 possible-in-byte : (I : Instance) (S : ℕ → ℕ → ℕ) (ms : List Move) → I .seats ≤ 32 → I .windows ≤ 24 → All (Possible I S) ms → All InByte ms

@@ -2,7 +2,7 @@
 use mathlib.Core.Path.{_≡_}
 use mathlib.Core.List.{List, [], _∷_}
 use mathlib.Core.Logic.{_⊎_}
-use Prim.Native.Nat.{ℕ, zero, suc, _+_, _-_, _*_}
+use Prim.Native.Nat.{ℕ, zero, suc, _-_}
 use lib.ListN.{length, getD, drop}
 use Rattle.fairness.specs.Exchange.{Move}
 use Rattle.model.specs.Lowest.{getOr}
@@ -10,7 +10,7 @@ use Rattle.model.specs.Book.{Book, Grid}
 use Rattle.model.specs.Search.{Found, PathOn}
 use Rattle.model.specs.Marks.{Mark, wasteful, improvable, tied, settled, Result, markOf, resultOf, moveBytes}
 use Rattle.dayfile.specs.Layout.{bookOf, sheetOf}
-use Rattle.dayfile.specs.Table.{Refusal, refuse, markLines}
+use Rattle.dayfile.specs.Table.{refuse, markLines}
 use Rattle.dayfile.specs.Outcome.{Outcome, turnedAway, answer, outcome}
 use Rattle.dayfile.specs.Memory.{front}
 use Rattle.marker.specs.declared.Marking.{Marking}

@@ -1,67 +1,27 @@
 -- A file with a settled sheet gets mark 4. Assumes nothing.
-use mathlib.Core.Path.{_≡_, refl, sym, ap, subst, _∙_}
-use mathlib.Core.Bool.{not}
-use mathlib.Core.List.{List, [], _∷_, _++_}
-use mathlib.Core.Option.{Option, none, some}
-use Prim.Native.Nat.{ℕ, _≤_, _<_}
-use native.Mathlib.Omega.{arith}
-use lib.Dec.{ltb}
-use borrow.Author.Tests.{le-ltb}
+use mathlib.Core.Path.{_≡_, ap, _∙_}
+use mathlib.Core.List.{List}
+use mathlib.Core.Option.{Option, some}
+use Prim.Native.Nat.{ℕ, _≤_}
 use Rattle.fairness.specs.Exchange.{Settled}
-use Rattle.model.specs.Lowest.{when, isSome, andThen, getOr}
-use Rattle.model.specs.Book.{Book, Grid, SheetOf, cell, instanceOf}
-use Rattle.model.specs.Marks.{Mark, settled, markOf}
+use Rattle.model.specs.Book.{Book, Grid, cell, instanceOf}
+use Rattle.model.specs.Marks.{settled, markOf}
 use Rattle.model.proofs.Theorems.{settled-mark}
-use Rattle.dayfile.specs.Layout.{bookOf, sheetOf, entryOf, gridAt, start, seatsIn, windowsIn}
-use Rattle.dayfile.specs.Table.{Refusal, firstOf, line13, line16, readLines, markerLines, bufferLines, markLines}
-use Rattle.dayfile.specs.Outcome.{Outcome, answer, unless, readFile, NoneHolds}
-use Rattle.dayfile.proofs.Lines.{none-first-of, on-after}
+use Rattle.dayfile.specs.Layout.{bookOf}
+use Rattle.dayfile.specs.Table.{Refusal, markLines}
+use Rattle.dayfile.specs.Outcome.{answer, unless, readFile}
+use Rattle.dayfile.proofs.Lines.{none-first-of}
 use Rattle.marker.specs.Marking.{sheetIn, markFile}
-use Rattle.marker.proofs.Accepted.{answered, entry-sheet, lawful-lines}
-
--- a sheet stands in an entry of kind 4
-sheet-entry : (o : Option ℕ) (g : ℕ → Grid) (s : Grid) → andThen o (λ e. some (g e)) ≡ some s → (e : ℕ) × (o ≡ some e)
-sheet-entry (some e) g s h = (e, refl)
-sheet-entry none g s h = absurd (let z : _≡_ {A = ℕ} 0 1 = cc in omega arith)
+use Rattle.marker.proofs.Taken.{book-is, sheet-in, sheet-shape, none-hold}
 
 module _ (f : List ℕ) (b : Book) (s : Grid) (read : readFile f ≡ answer (b, some s)) (done : Settled (instanceOf b) (cell s)) where
-  says : (firstOf (readLines f) ≡ none) × _≡_ {A = Book × Option Grid} (bookOf f, sheetOf f) (b, some s)
-  unfolding readFile
-  says = answered (firstOf (readLines f)) (bookOf f, sheetOf f) (b, some s) read
-
-  pub book-is : bookOf f ≡ b
-  book-is = ap (λ (p : Book × Option Grid). p .0) (says .1)
-
-  sheet-is : sheetOf f ≡ some s
-  sheet-is = ap (λ (p : Book × Option Grid). p .1) (says .1)
-
-  pub sheet-in : sheetIn f ≡ s
-  sheet-in = ap (λ (o : Option Grid). getOr o []) sheet-is
-
-  entry : (e : ℕ) × (entryOf f 4 ≡ some e)
-  unfolding sheetOf
-  entry = sheet-entry (entryOf f 4) (λ e. gridAt f (start f e) (seatsIn f) (windowsIn f)) s sheet-is
-
   settled-here : Settled (instanceOf (bookOf f)) (cell (sheetIn f))
-  settled-here = rw (book-is, sheet-in) done
-
-  marker-free : NoneHolds (markerLines f)
-  unfolding markerLines line13
-  marker-free =
-      let lines = lawful-lines f (entry .0) (entry .1) (settled-here .feasible) in
-      (ap (λ (o : Option ℕ). when (not (isSome o)) 0) (entry .1), (lines .0, (lines .1, tt)))
-
-  buffer-free : (room : ℕ) → 93 ≤ room → NoneHolds (bufferLines room 93)
-  unfolding bufferLines line16
-  buffer-free room long = (ap (λ t. when t 93) (le-ltb room 93 long), tt)
+  settled-here = rw (book-is f b s read, sheet-in f b s read) done
 
   -- whatever the buffer, if it is long enough
   pub marked-settled : (room : ℕ) → 93 ≤ room → markFile f room ≡ answer settled
-  unfolding markFile markLines
+  unfolding markFile
   marked-settled room long =
-      let free : firstOf (markLines f room) ≡ none =
-      on-after (readLines f) (markerLines f ++ bufferLines room 93) (says .0)
-      ∙ on-after (markerLines f) (bufferLines room 93) (none-first-of (markerLines f) marker-free)
-      ∙ none-first-of (bufferLines room 93) (buffer-free room long) in
-      ap (λ (o : Option Refusal). unless o (markOf (bookOf f) (sheetIn f))) free
-      ∙ ap answer (settled-mark (bookOf f) (sheetIn f) (entry-sheet f (entry .0) (entry .1)) (settled-here .feasible) .1 settled-here)
+      ap (λ (o : Option Refusal). unless o (markOf (bookOf f) (sheetIn f)))
+      (none-first-of (markLines f room) (none-hold f b s read (done .feasible) room long))
+      ∙ ap answer (settled-mark (bookOf f) (sheetIn f) (sheet-shape f b s read) (settled-here .feasible) .1 settled-here)

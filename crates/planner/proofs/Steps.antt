@@ -1,5 +1,5 @@
 -- What the planner's steps show, from what is read, checked and written. Assumes nothing.
-use mathlib.Core.Path.{_≡_, refl, sym, ap, ap₂, subst, _∙_}
+use mathlib.Core.Path.{_≡_, refl, sym, ap, _∙_}
 use mathlib.Core.Bool.{true}
 use mathlib.Core.List.{List, []}
 use mathlib.Core.Option.{Option, none, some}
@@ -11,8 +11,7 @@ use lib.ListN.{length, getD}
 use borrow.Author.Tests.{lt-ltb, le-ltb}
 use Rattle.fairness.specs.Instance.{Instance, Feasible}
 use Rattle.fairness.specs.Exchange.{Settled}
-use Rattle.model.specs.Lowest.{when}
-use Rattle.model.specs.Book.{Book, Grid, SheetOf, Shaped, cell, seats, windows, instanceOf}
+use Rattle.model.specs.Book.{Book, Grid, SheetOf, cell, seats, windows, instanceOf}
 use Rattle.model.proofs.Agree.{agree-settled}
 use Rattle.dayfile.specs.Bounds.{Fit}
 use Rattle.dayfile.specs.Layout.{bookOf, sheetOf}

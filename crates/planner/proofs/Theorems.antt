@@ -1,12 +1,12 @@
 -- Demands 1 and 3 for the planner, over its contract `Plans` and the marker's `Marks`, with the definitions of specs/ alone.
-use mathlib.Core.Path.{_≡_, refl, sym, ap, subst, _∙_}
-use mathlib.Core.List.{List, _++_}
+use mathlib.Core.Path.{_≡_, refl, sym, ap, _∙_}
+use mathlib.Core.List.{List}
 use mathlib.Core.Option.{Option, none, some}
 use Prim.Native.Nat.{ℕ, _≤_}
 use native.Mathlib.Omega.{arith}
 use lib.ListN.{length}
 use Rattle.fairness.specs.Exchange.{Settled}
-use Rattle.model.specs.Book.{Book, Grid, SheetOf, cell, instanceOf, totals}
+use Rattle.model.specs.Book.{Grid, cell, instanceOf, totals}
 use Rattle.model.specs.Fair.{profileOf, HighestList}
 use Rattle.model.proofs.Theorems as model
 use Rattle.fairness.proofs.Theorems.{settled-highest}

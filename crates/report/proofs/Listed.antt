@@ -1,5 +1,5 @@
 -- From what the marker says and writes to the listing's contract. Assumes nothing.
-use mathlib.Core.Path.{_≡_, refl, sym, ap, ap₂, subst, _∙_}
+use mathlib.Core.Path.{_≡_, refl, sym, ap, _∙_}
 use mathlib.Core.List.{List, [], _++_}
 use mathlib.Core.Option.{none}
 use Prim.Native.Nat.{ℕ, _*_, _≤_, _<_}
@@ -8,13 +8,13 @@ use lib.ListN.{length, drop}
 use borrow.Author.Tests.{lt-ltb, le-ltb}
 use Rattle.fairness.specs.Exchange.{Move}
 use Rattle.fairness.proofs.Theorems.{path-length}
-use Rattle.model.specs.Book.{Book, Grid, cell, seats, instanceOf}
-use Rattle.model.specs.Search.{Found, PathOn}
+use Rattle.model.specs.Book.{cell, seats, instanceOf}
+use Rattle.model.specs.Search.{Found}
 use Rattle.model.specs.Marks.{Mark, wasteful, improvable, tied, settled, Result, markOf, resultOf, moveBytes}
 use Rattle.model.proofs.Marks.{mark-means}
 use Rattle.dayfile.specs.Bounds.{Fit}
 use Rattle.dayfile.specs.Layout.{bookOf}
-use Rattle.dayfile.specs.Table.{Refusal, refuse, firstOf, line16, readLines, markerLines, bufferLines, markLines}
+use Rattle.dayfile.specs.Table.{refuse, firstOf, line16, readLines, markerLines, bufferLines, markLines}
 use Rattle.dayfile.specs.Outcome.{Outcome, turnedAway, answer}
 use Rattle.dayfile.specs.Memory.{front}
 use Rattle.dayfile.specs.declared.Written as Written
@@ -151,7 +151,9 @@ module _ (file moves written : List ℕ) (r : Marking) (room : length moves ≡ 
               BufferAfter (bookOf file) (sheetIn file) (answer m) moves written → Listed file before after (Written.the-variants.Whole n)
           go (wasteful j i) is e kept′ = marked-text (wasteful j i) is e [] (no-moves (ap (λ (y : Result). y .moves) e)) refl
           go (improvable f) is e kept′ =
-              marked-text (improvable f) is e (kept′ .moves) (path-moves f (ap (λ (y : Result). y .moves) e) kept′) (kept′ .path, kept′ .count)
+              let agree = path-moves f (ap (λ (y : Result). y .moves) e) kept′ in
+              marked-text (improvable f) is e (kept′ .moves) agree (kept′ .path, kept′ .count)
           go (tied f) is e kept′ =
-              marked-text (tied f) is e (kept′ .moves) (path-moves f (ap (λ (y : Result). y .moves) e) kept′) (kept′ .path, kept′ .count)
+              let agree = path-moves f (ap (λ (y : Result). y .moves) e) kept′ in
+              marked-text (tied f) is e (kept′ .moves) agree (kept′ .path, kept′ .count)
           go settled is e kept′ = marked-text settled is e [] (no-moves (ap (λ (y : Result). y .moves) e)) refl

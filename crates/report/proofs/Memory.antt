@@ -1,7 +1,7 @@
 -- What was read into memory gives the listing of the file's book and sheet. Assumes nothing.
 use mathlib.Core.Path.{_≡_, ap, _∙_}
 use mathlib.Core.List.{List}
-use Prim.Native.Nat.{ℕ, _*_, _≤_, _<_}
+use Prim.Native.Nat.{ℕ, _*_, _<_}
 use native.Mathlib.Omega.{arith}
 use lib.ListN.{getD}
 use Rattle.fairness.specs.Sums.{sum}
@@ -10,14 +10,14 @@ use Rattle.fairness.proofs.Sums.{sum-eq}
 use Rattle.model.specs.Book.{Book, Grid, cell, seats, windows, instanceOf}
 use Rattle.model.specs.Marks.{Result, moveBytes}
 use Rattle.dayfile.specs.Bounds.{Fit}
-use Rattle.dayfile.specs.Memory.{Holds, held, sized, sizedGrid}
+use Rattle.dayfile.specs.Memory.{Holds, held}
 use Rattle.dayfile.specs.declared.Book as Memory
 use Rattle.dayfile.proofs.Tables.{sized-at, sized-row}
 use Rattle.sheet.specs.declared.Sheet.{Sheet}
 use Rattle.sheet.specs.Sheets.{credit, gridOf}
 use Rattle.sheet.proofs.Cells.{credit-cell}
 use Rattle.listing.specs.Listing.{listingText, listingOf}
-use Rattle.listing.proofs.Instance.{Agree, listing-same, listing-is}
+use Rattle.listing.proofs.Instance.{Agree, listing-is}
 
 -- a grid in memory has the cells of the grid that it holds
 held-cell : (g : Grid) (i j : ℕ) → i < 32 → j < 24 → cell (held g) i j ≡ cell g i j

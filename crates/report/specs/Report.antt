@@ -6,7 +6,7 @@ use Prim.Native.Nat.{ℕ}
 use lib.ListN.{length}
 use Rattle.fairness.specs.Exchange.{Move}
 use Rattle.model.specs.Book.{Book, Grid}
-use Rattle.model.specs.Search.{Found, PathOn}
+use Rattle.model.specs.Search.{PathOn}
 use Rattle.model.specs.Marks.{Mark, wasteful, improvable, tied, settled, resultOf}
 use Rattle.dayfile.specs.declared.Written.{Written}
 use Rattle.dayfile.specs.Layout.{bookOf}

@@ -4,7 +4,7 @@ ghost use Prim.Native.Nat.{ℕ, _≤_, _<_, _*_};
 ghost use mathlib.Core.List.{List};
 ghost use lib.ListN.{length, getD};
 ghost use Rattle.fairness.specs.Exchange.{Move};
-ghost use Rattle.model.specs.Marks.{Result, moveBytes};
+ghost use Rattle.model.specs.Marks.{moveBytes};
 ghost use Rattle.dayfile.specs.Bounds.{Fit};
 ghost use Rattle.dayfile.specs.Layout.{bookOf};
 ghost use Rattle.listing.specs.Listing.{listingOf, listingMax, Printed};
@@ -88,8 +88,8 @@ pub fn put_report(
     )
 }
 
-// The text that the program `mark` prints of a file, at the front of the buffer. A refusal of the file is a text as well: only a buffer that
-// could be too short for some listing is refused.
+// The text that the program `mark` prints of a file, at the front of the buffer. A refusal of the file is a text as well: only a buffer
+// that could be too short for some listing is refused.
 pub fn listing(file: &[u8], out: &mut [u8]) -> Written
     ensures { λ r. ⌜ Lists (now (file .entry)) (now (out .entry)) (now (out .exit)) r ⌝ }
 {

@@ -1,11 +1,9 @@
 -- `planner::plan_check` meets its contract: the reader's lines first, then the buffer's.
 use mathlib.Core.Path.{_≡_, refl, _∙_}
-use mathlib.Core.Option.{none}
 use native.Mathlib.Omega.{arith}
 use borrow.Author.Needs.{needs}
-use Rattle.dayfile.specs.Bounds.{Fit}
 use Rattle.dayfile.specs.Layout.{bookOf}
-use Rattle.dayfile.specs.Table.{firstOf, readLines, plannedLength}
+use Rattle.dayfile.specs.Table.{plannedLength}
 use Rattle.dayfile.specs.Memory.{held}
 use Rattle.dayfile.proofs.Answers.{refuses, passes}
 use Rattle.planner.proofs.Steps.{fit-of, refused-early, refused-short, long-enough, need-is}

@@ -1,5 +1,5 @@
 -- `report::listing` meets its contract: the line of a refusal, or the listing of a mark with its moves.
-use mathlib.Core.Path.{_≡_, refl, ap}
+use mathlib.Core.Path.{refl, ap}
 use borrow.Author.Needs.{needs}
 use denote.Ref.{now}
 use Rattle.marker.specs.Marking.{told}

@@ -1,0 +1,6 @@
+pub mod Outcomes
+pub mod Documents
+pub mod Files
+pub mod Fairness
+-- the three demands
+pub mod Theorems

@@ -1,0 +1,33 @@
+-- The three demands hold. Their statements are in specs/Demands.antt; nothing is assumed.
+use Rattle.model.proofs.Theorems.{highest-list-exists, highest-lists-equal}
+use Rattle.demands.specs.Demands.{Demand1, Demand2, Demand3}
+use Rattle.demands.proofs.Outcomes.{first}
+use Rattle.demands.proofs.Documents.{lawful-frugal, wasteful-not-non-wasteful}
+use Rattle.demands.proofs.Files.{reads-back, same-bytes}
+use Rattle.demands.proofs.Fairness.{passes-exactly, fails, planned, planned-passes}
+
+-- each call gives a defined outcome or a numbered refusal, and a refusal changes no byte
+pub demand-1 : Demand1
+demand-1 = first
+
+-- lawful and wasteful are document 000's; files written read back the same, and an accepted file written again has the same bytes
+pub demand-2 : Demand2
+demand-2 =
+    record {
+      lawful = lawful-frugal;
+      wasteful = wasteful-not-non-wasteful;
+      written-reads-back = reads-back;
+      same-bytes = same-bytes;
+    }
+
+-- the marker passes exactly the fairest sheets, the planner's always pass, and the chain of a failing sheet improves it
+pub demand-3 : Demand3
+demand-3 =
+    record {
+      highest-exists = highest-list-exists;
+      highest-one = highest-lists-equal;
+      passes-exactly = passes-exactly;
+      fails = fails;
+      planned = planned;
+      planned-passes = planned-passes;
+    }

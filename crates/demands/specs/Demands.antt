@@ -1,0 +1,160 @@
+-- The three demands, each as one statement over the contracts of the public calls: the reader's and the writer's as below, the marker's
+-- `Marks`, the planner's `Plans`, the listing's `Lists`. Proved in proofs/Theorems.antt.
+use mathlib.Core.Path.{_≡_}
+use mathlib.Core.Bool.{Bool}
+use mathlib.Core.List.{List, []}
+use mathlib.Core.Logic.{_↔_, _⊎_}
+use mathlib.Core.Option.{Option, some}
+use Prim.Native.Nat.{ℕ, _≤_, _<_}
+use lib.ListN.{length, take}
+use Rattle.fairness.specs.Sums.{sum}
+use Rattle.fairness.specs.Instance.{Instance, Sheet, Wasteful, Feasible}
+use Rattle.fairness.specs.Leximin.{Level, NoHigher, Equal, Higher, profile}
+use Rattle.fairness.specs.Exchange.{Settled, playAll, PlaysOut}
+use Rattle.model.specs.Lowest.{isSome}
+use Rattle.model.specs.Book.{Grid, Book, Lawful, cell, instanceOf, totals}
+use Rattle.model.specs.Marks.{markOf, resultOf}
+use Rattle.model.specs.Fair.{profileOf, HighestList}
+use Rattle.dayfile.specs.declared.Check.{Check}
+use Rattle.dayfile.specs.declared.Book as Memory
+use Rattle.dayfile.specs.declared.Written.{Written}
+use Rattle.dayfile.specs.Layout.{bookOf, sheetOf, Bytes}
+use Rattle.dayfile.specs.Table.{firstOf, readLines, writeLines, Line, Refusal, markLines, planLines, bufferLines, plannedLength}
+use Rattle.dayfile.specs.Memory.{Holds, held, heldIf, fileIn, refused, Writes, written, reading, front, bookIn, sheetIn}
+use Rattle.dayfile.specs.Outcome.{Outcome, turnedAway, answer, NoneHolds, FirstHolds, readFile}
+use Rattle.dayfile.specs.declared.Written.the-variants.{Whole}
+use Rattle.listing.specs.Listing.{listingMax}
+use Rattle.marker.specs.declared.Marking.{Marking}
+use Rattle.marker.specs.Marking.{told, BufferAfter, Marks, movesIn, Passing}
+use Rattle.marker.specs.Marking as marker
+use Rattle.planner.specs.Planning.{Planned, Plans}
+use Rattle.report.specs.Report.{Listed, Lists}
+
+-- ---- what the contracts of the reader and the writer say of a file and of a book in memory
+
+-- the answers of the reader's five calls
+pub record Answers : Type 0 where
+  pub check : Check
+  pub book : Memory.Book
+  pub caps : Grid
+  pub there : Bool
+  pub sheet : Grid
+
+-- their contracts on one file: read_check, read_book, read_caps, has_sheet, read_sheet
+pub record Reads (file : List ℕ) (a : Answers) : Type 0 where
+  pub checked : refused (a .check) ≡ firstOf (readLines file)
+  pub holds : Holds (bookOf file) (a .book)
+  pub caps-are : a .caps ≡ held (bookOf file .caps)
+  pub there-is : a .there ≡ isSome (sheetOf file)
+  pub sheet-is : a .sheet ≡ heldIf (sheetOf file)
+
+-- the file of what is in memory
+abbrev pub fileFrom : Answers → List ℕ
+fileFrom a = fileIn (a .book) (a .caps) (a .there) (a .sheet)
+
+-- the writer's contract on what is in memory
+abbrev pub WritesFrom : Answers → (before after : List ℕ) → Written → Type 0
+WritesFrom a before after r = Writes (writeLines (fileFrom a)) (fileFrom a) before r after
+
+-- ---- Demand 1: each call gives a defined outcome or a numbered refusal, and a refusal changes no byte.
+
+-- a call that goes down these lines of the table, answers o and leaves `after` in its buffer: it refuses exactly with the first line that
+-- holds, and then the buffer is as it was; where no line holds it gives an answer that is right
+pub record Defined {A : Type 0} (lines : List Line) (before after : List ℕ) (o : Outcome A) (Right : A → Type 0) : Type 0 where
+  pub refuses : (q : Refusal) → (o ≡ turnedAway q) ↔ FirstHolds lines q
+  pub unchanged : (q : Refusal) → o ≡ turnedAway q → after ≡ before
+  pub gives : NoneHolds lines → (x : A) × ((o ≡ answer x) × Right x)
+
+-- for every file, book and buffer
+pub record Demand1 : Type 0 where
+  -- the reader has no buffer; its answer is the book and the sheet, or its absence, that stand in the file
+  pub reader : (file : List ℕ) (a : Answers) → Reads file a →
+      Defined (readLines file) [] [] (reading (a .check) (a .book) (a .caps) (a .there) (a .sheet))
+      (λ (x : Book × Option Grid). x ≡ (bookOf file, sheetOf file))
+  -- the writer's is the file's length, and the file stands at the buffer's front
+  pub writer : (a : Answers) (before after : List ℕ) (r : Written) → WritesFrom a before after r →
+      Defined (writeLines (fileFrom a) (length before)) before after (written r)
+      (λ n. (n ≡ length (fileFrom a)) × (after ≡ front (fileFrom a) before))
+  -- the marker's is the result of the mark that the rules give; marks 2 and 3 have their path at the buffer's front
+  pub marker : (file before after : List ℕ) (r : Marking) → Marks file before after r →
+      Defined (markLines file (length before)) before after (told r)
+      (λ x. (x ≡ resultOf (markOf (bookOf file) (marker.sheetIn file)))
+      × BufferAfter (bookOf file) (marker.sheetIn file) (answer (markOf (bookOf file) (marker.sheetIn file))) before after)
+  -- the planner's is the planned file's length, and the file with a settled sheet stands at the buffer's front
+  pub planner : (file before after : List ℕ) (r : Written) → Plans file before after r →
+      Defined (planLines file (length before)) before after (written r)
+      (λ n. (n ≡ plannedLength (bookOf file)) × Planned (bookOf file) before after)
+  -- the listing's is the text's length, and the text stands at the buffer's front
+  pub listing : (file before after : List ℕ) (r : Written) → Lists file before after r →
+      Defined (bufferLines (length before) listingMax) before after (written r) (λ n. Listed file before after r)
+
+-- ---- Demand 2: lawful and wasteful are document 000's frugal and not non-wasteful; files written read back the same, and an accepted file
+-- written again has the same bytes.
+
+module _ (I : Instance) (μ : Sheet) where
+  -- document 000's allocation: of no object more than its supply. Frugal: to no agent more of an object than it demands
+  pub record Frugal : Type 0 where
+    pub allocation : (b : ℕ) → b < I .windows → sum (I .seats) (λ a. μ a b) ≤ I .supply b
+    pub frugal : (a b : ℕ) → a < I .seats → b < I .windows → μ a b ≤ I .cap a b
+
+  -- document 000's non-wasteful: of each object all is handed out, or every agent has what it demands
+  abbrev pub NonWasteful : Type 0
+  NonWasteful =
+      (b : ℕ) → b < I .windows → (sum (I .seats) (λ a. μ a b) ≡ I .supply b) ⊎ ((a : ℕ) → a < I .seats → μ a b ≡ I .cap a b)
+
+pub record Demand2 : Type 0 where
+  pub lawful : (b : Book) (s : Grid) → Lawful b s ↔ Frugal (instanceOf b) (cell s)
+  pub wasteful : (b : Book) (s : Grid) → Lawful b s →
+      Wasteful (instanceOf b) (cell s) ↔ (NonWasteful (instanceOf b) (cell s) → ⊥)
+  -- what the writer wrote, read from the buffer's front, is the book and the sheet that were in memory (the planner's: see demand 3)
+  pub written-reads-back : (a : Answers) (before after : List ℕ) (n : ℕ) → WritesFrom a before after (Whole n) →
+      readFile (take n after) ≡ answer (bookIn (a .book) (a .caps), sheetIn (a .book) (a .there) (a .sheet))
+  -- what the reader read of an accepted file, written to a buffer that is long enough, has the file's bytes
+  pub same-bytes : (file : List ℕ) → Bytes file → NoneHolds (readLines file) → (a : Answers) → Reads file a →
+      (before after : List ℕ) (r : Written) → length file ≤ length before → WritesFrom a before after r →
+      (r ≡ Whole (length file)) × (after ≡ front file before)
+
+-- ---- Demand 3: the marker passes a lawful sheet exactly when its sorted list of levels equals the highest of all lawful sheets; the
+-- planner's sheet always passes; the chain of a failing sheet, played move by move, is possible at every turn and ends in a lawful sheet
+-- with a higher list.
+
+-- an accepted file with a lawful sheet, and what the marker answers with a buffer that is long enough
+pub record Marked (file : List ℕ) (b : Book) (s : Grid) (before after : List ℕ) (r : Marking) : Type 0 where
+  pub accepted : readFile file ≡ answer (b, some s)
+  pub lawful : Lawful b s
+  pub long : 93 ≤ length before
+  pub marks : Marks file before after r
+
+-- a chain of n moves at the front of a buffer, played on a sheet of the book, the first on the sheet as it is and each later one on what
+-- the move before it left
+pub record Improves (b : Book) (s : Grid) (n : ℕ) (buffer : List ℕ) : Type 0 where
+  pub possible : PlaysOut (instanceOf b) (cell s) (movesIn n buffer)
+  pub lawful : Feasible (instanceOf b) (playAll (cell s) (movesIn n buffer))
+  pub higher : Higher NoHigher (profileOf b s) (profile (instanceOf b) (playAll (cell s) (movesIn n buffer)))
+
+-- the first n bytes of a buffer are a file of this book with a sheet that is lawful and has the book's highest list, and all settled
+-- sheets of the book have its totals
+pub record PlannedFile (b : Book) (n : ℕ) (buffer : List ℕ) : Type 0 where
+  pub sheet : Grid
+  pub reads-back : readFile (take n buffer) ≡ answer (b, some sheet)
+  pub lawful : Lawful b sheet
+  pub highest : HighestList b (profileOf b sheet)
+  pub totals-are : (t : Grid) → Settled (instanceOf b) (cell t) → totals b t ≡ totals b sheet
+
+pub record Demand3 : Type 0 where
+  -- there is one highest list
+  pub highest-exists : (b : Book) → (xs : List Level) × HighestList b xs
+  pub highest-one : (b : Book) (xs ys : List Level) → HighestList b xs → HighestList b ys → Equal NoHigher xs ys
+  -- the marker passes a lawful sheet exactly when its list equals the highest list of the book
+  pub passes-exactly : (file : List ℕ) (b : Book) (s : Grid) (before after : List ℕ) (r : Marking) → Marked file b s before after r →
+      (xs : List Level) → HighestList b xs → Passing (told r) ↔ Equal NoHigher (profileOf b s) xs
+  -- a lawful sheet that fails and is not wasteful has a chain, and the chain improves
+  pub fails : (file : List ℕ) (b : Book) (s : Grid) (before after : List ℕ) (r : Marking) → Marked file b s before after r →
+      (Passing (told r) → ⊥) → (Wasteful (instanceOf b) (cell s) → ⊥) →
+      (n : ℕ) × ((told r ≡ answer (record { mark = 2; window = 0; seat = 0; moves = n })) × Improves b s n after)
+  -- what the planner wrote is the file's own book with the fairest sheet
+  pub planned : (file before after : List ℕ) (n : ℕ) → Plans file before after (Whole n) → PlannedFile (bookOf file) n after
+  -- and the marker, given that file and any buffer that is long enough, answers mark 4
+  pub planned-passes : (file before after : List ℕ) (n : ℕ) → Plans file before after (Whole n) →
+      (moves moves′ : List ℕ) (r : Marking) → 93 ≤ length moves → Marks (take n after) moves moves′ r →
+      told r ≡ answer (record { mark = 4; window = 0; seat = 0; moves = 0 })
