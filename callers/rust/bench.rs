@@ -150,7 +150,7 @@ fn markers(file: &[u8]) -> Vec<Call<'_>> {
 fn nearly_settled(rng: &mut Rng, book: &Book) -> Sheet {
     let settled = planned(book);
     loop {
-        let sheet = spoilt(rng, book, &settled, 4);
+        let sheet = spoilt(rng, book, &settled, 4, 100);
         if reference::mark(&file_of(book, Some(&sheet)), &mut [0; 93]).unwrap().mark == 2 {
             return sheet;
         }

@@ -107,17 +107,17 @@ pub fn windows_alone(book: &Book, first: usize) -> Sheet {
     sheet
 }
 
-/// The sheet after up to that many moves drawn at random; it stays lawful, and as wasteful as it was.
-pub fn spoilt(rng: &mut Rng, book: &Book, sheet: &Sheet, moves: usize) -> Sheet {
+/// The sheet after that many moves drawn at random, each of up to `most` credits; it stays lawful, and as wasteful as it was.
+pub fn spoilt(rng: &mut Rng, book: &Book, sheet: &Sheet, moves: usize, most: usize) -> Sheet {
     let mut sheet = *sheet;
     for _ in 0..moves {
         let (window, giver, taker) = (rng.below(book.windows), rng.below(book.seats), rng.below(book.seats));
-        let room = book.caps[taker][window] - sheet[taker][window];
-        let most = if giver == taker { 0 } else { room.min(sheet[giver][window]) };
-        let some = 1 << rng.below(13);
-        let credits = most.min(rng.between(1, some) as u16);
-        sheet[giver][window] -= credits;
-        sheet[taker][window] += credits;
+        if giver != taker {
+            let room = book.caps[taker][window] - sheet[taker][window];
+            let credits = room.min(sheet[giver][window]).min(rng.between(1, most) as u16);
+            sheet[giver][window] -= credits;
+            sheet[taker][window] += credits;
+        }
     }
     sheet
 }
