@@ -58,8 +58,8 @@ fn all_tables() {
     plan_table(&mut csv);
     mark_table(&mut csv);
     file_table(&mut csv);
-    growth_table(&mut csv, "plan by seats, 24 windows", (4..=32).step_by(4).map(|seats| (seats, 24)));
-    growth_table(&mut csv, "plan by windows, 32 seats", (3..=24).step_by(3).map(|windows| (32, windows)));
+    growth_table(&mut csv, "seats", "plan by seats, 24 windows", (1..=8).map(|step| (4 * step, (4 * step, 24))));
+    growth_table(&mut csv, "windows", "plan by windows, 32 seats", (1..=8).map(|step| (3 * step, (32, 3 * step))));
     std::fs::create_dir_all("target").and_then(|()| std::fs::write("target/speed.csv", csv)).expect("target/speed.csv");
     println!("\nThe numbers are in target/speed.csv.");
 }
@@ -125,12 +125,12 @@ fn plan_table(csv: &mut String) {
     }
 }
 
-fn growth_table(csv: &mut String, table: &str, sizes: impl Iterator<Item = (usize, usize)>) {
+/// Planning as books grow, a quarter filled: the number that grows, and the size of the book.
+fn growth_table(csv: &mut String, table: &str, title: &str, sizes: impl Iterator<Item = (usize, (usize, usize))>) {
     let names = names(&planners(&[])[..3]);
-    heading(table, &names);
-    for (seats, windows) in sizes {
-        let case = if windows == 24 && table.contains("seats, 24") { seats } else { windows };
-        line(csv, table, &case.to_string(), &names, &plan_times(books::quarter, (seats, windows), false));
+    heading(title, &names);
+    for (case, size) in sizes {
+        line(csv, table, &case.to_string(), &names, &plan_times(books::quarter, size, false));
     }
 }
 
