@@ -11,7 +11,8 @@ class Picture:
         self.rect(0, 0, width, height, "#ffffff")
 
     def rect(self, x, y, width, height, fill, stroke="none"):
-        self.parts.append('<rect x="%.1f" y="%.1f" width="%.1f" height="%.1f" fill="%s" stroke="%s"/>' % (x, y, width, height, fill, stroke))
+        form = '<rect x="%.1f" y="%.1f" width="%.1f" height="%.1f" fill="%s" stroke="%s"/>'
+        self.parts.append(form % (x, y, width, height, fill, stroke))
 
     def line(self, points, stroke=INK, width=1.0, arrow=False):
         """A line through points; with an arrow head at its end if asked."""
@@ -29,7 +30,8 @@ class Picture:
 
     def __str__(self):
         width, height = self.size
-        top = '<svg xmlns="http://www.w3.org/2000/svg" viewBox="0 0 %d %d" width="%d" height="%d" font-family="sans-serif">' % (width, height, width, height)
+        size = 'viewBox="0 0 %d %d" width="%d" height="%d"' % (width, height, width, height)
+        top = '<svg xmlns="http://www.w3.org/2000/svg" %s font-family="sans-serif">' % size
         head = '<defs><marker id="head" viewBox="0 0 8 8" refX="7" refY="4" markerWidth="7" markerHeight="7" orient="auto">' \
             '<path d="M0,0 L8,4 L0,8 z" fill="#b03a2e"/></marker></defs>'
         return "\n".join([top, head] + self.parts + ["</svg>", ""])
