@@ -123,6 +123,30 @@ fn plan_table(csv: &mut String) {
     for (kind, draw) in KINDS {
         line(csv, "plan", kind, &names, &plan_times(draw, (32, 24), true));
     }
+    let mut rng = Rng::new(7);
+    let books = KINDS.iter().flat_map(|(_, draw)| (0..BOOKS).map(|_| draw(&mut rng, 32, 24)).collect::<Vec<_>>());
+    let same = books.map(|book| agree(&book)).filter(|&same| same).count();
+    println!(
+        "All four give the same totals; library and plain Rust the same cells on {same} of {} books.",
+        KINDS.len() * BOOKS
+    );
+}
+
+/// All planners must give the same totals. Says whether the library and the same method in plain Rust give the same cells.
+fn agree(book: &Book) -> bool {
+    let file = file_of(book, None);
+    let mut outs = [[0; 3210]; 4];
+    let [library, same, other, flow] = &mut outs;
+    credits::plan(&file, library).expect("a book within its bounds");
+    same_method::plan(&file, same).expect("a book within its bounds");
+    reference::plan(&file, other).expect("a book within its bounds");
+    max_flow::plan(&file, flow).expect("a book within its bounds");
+    let totals = |out: &[u8; 3210]| {
+        let sheet = reference::read(out).expect("the longest file").1.expect("a planned sheet");
+        sheet.map(|row| row.iter().map(|&cell| cell as u32).sum::<u32>())
+    };
+    assert!(outs.iter().all(|out| totals(out) == totals(&outs[0])), "the planners' totals differ");
+    outs[0] == outs[1]
 }
 
 /// Planning as books grow, a quarter filled: the number that grows, and the size of the book.
