@@ -1,7 +1,7 @@
 -- Tests joined by `and`, chosen by `cond`, and the line of a table that holds where a test fails.
 -- Assumes nothing.
 use mathlib.Core.Bool.{Bool, true, false, not, cond, _&&_}
-use mathlib.Core.Option.{Option, none, some}
+use mathlib.Core.Option.{none, some}
 use mathlib.Core.Path.{_≡_, refl, sym, _∙_, ap, ap₂}
 use Prim.Native.Nat.{ℕ, _≤_}
 use native.Mathlib.Omega.{arith}
@@ -57,6 +57,10 @@ keeps p e h = ap (λ (x : Bool). when (not x) p) (sym h ∙ e)
 
 pub fails : {t b : Bool} (p : ℕ) → t ≡ b → t ≡ false → some p ≡ when (not b) p
 fails p e h = ap (λ (x : Bool). when (not x) p) (sym h ∙ e)
+
+-- the code's test, turned round
+pub turned : {t b v : Bool} → t ≡ b → not t ≡ v → not b ≡ v
+turned e h = ap not (sym e) ∙ h
 
 pub when-none : (t : Bool) (p : ℕ) → when t p ≡ none → t ≡ false
 when-none false p e = refl
