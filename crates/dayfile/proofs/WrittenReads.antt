@@ -9,7 +9,7 @@ use native.Mathlib.Omega.{arith}
 use lib.Dec.{eqb}
 use lib.ListN.{length, getD}
 use borrow.Author.Tests.{eq-eqb, le-ltb}
-use Rattle.model.specs.Lowest.{when, andThen}
+use Rattle.model.specs.Lowest.{lowest, when, andThen}
 use Rattle.model.specs.Book.{Book, Grid, Shaped, seats, windows}
 use Rattle.dayfile.specs.Bounds.{Fit, SheetFit}
 use Rattle.dayfile.specs.Layout.{field, count, contentsEnd, kind, start, size, ends, seatsIn, windowsIn, kindAt, startAt, sizeAt}
@@ -152,19 +152,19 @@ module _ (b : Book) (o : Option Grid) (fit : Fit b) (sheet : SheetFit b o) where
   kind-right-f (suc (suc zero)) h = eq-eqb (kind f 2) 3 (kind-f 2 h)
   kind-right-f (suc (suc (suc e))) h = kind-after e h
 
+  -- a test that each entry passes
+  none-at : (at : ℕ → ℕ) (right : ℕ → Bool) → ((e : ℕ) → e < length ps → right e ≡ true)
+      → offset at (lowest (count f) (λ e. not (right e))) ≡ none
+  none-at at right h =
+      let c = count-f in ap (offset at) (none-all (λ e. not (right e)) (count f) (λ e l. ap not (h e (omega arith))))
+
   at4 : line4 f ≡ none
   unfolding line4
-  at4 =
-      let c = count-f in
-      ap (offset kindAt) (none-all (λ e. not (kindRight f e)) (count f) (λ e h. ap not (kind-right-f e (omega arith))))
+  at4 = none-at kindAt (kindRight f) kind-right-f
 
   at5 : line5 f ≡ none
   unfolding line5
-  at5 =
-      let c = count-f in
-      ap (offset startAt)
-      (none-all (λ e. not (eqb (start f e) (ends f e))) (count f)
-      (λ e h. ap not (eq-eqb (start f e) (ends f e) (start-f e (omega arith)))))
+  at5 = none-at startAt (λ e. eqb (start f e) (ends f e)) (λ e h. eq-eqb (start f e) (ends f e) (start-f e h))
 
   at6 : line6 f ≡ none
   unfolding line6
@@ -215,9 +215,7 @@ module _ (b : Book) (o : Option Grid) (fit : Fit b) (sheet : SheetFit b o) where
 
   at9 : line9 f ≡ none
   unfolding line9
-  at9 =
-      let c = count-f in
-      ap (offset sizeAt) (none-all (λ e. not (gridRight f e)) (count f) (λ e h. ap not (grid-right-f e (omega arith))))
+  at9 = none-at sizeAt (gridRight f) grid-right-f
 
   -- ---- values
 
