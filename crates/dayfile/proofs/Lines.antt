@@ -17,9 +17,10 @@ pub on : (n : ℕ) {l : Option ℕ} {next r : Option Refusal} → l ≡ none →
 on n {l} {next} e q = q ∙ ap (λ (o : Option ℕ). orRefuse n o next) (sym e)
 
 -- three lines, as their checks found them
-pub three-as : (n : ℕ) {a b c x y z : Option ℕ} → a ≡ x → b ≡ y → c ≡ z
-    → firstOf (line n a ∷ line (n + 1) b ∷ line (n + 2) c ∷ []) ≡ firstOf (line n x ∷ line (n + 1) y ∷ line (n + 2) z ∷ [])
-three-as n p q r = rw (p, q, r)
+pub three-as : (n : ℕ) {r : Option Refusal} {a b c x y z : Option ℕ}
+    → r ≡ firstOf (line n a ∷ line (n + 1) b ∷ line (n + 2) c ∷ []) → a ≡ x → b ≡ y → c ≡ z
+    → r ≡ firstOf (line n x ∷ line (n + 1) y ∷ line (n + 2) z ∷ [])
+three-as n e p q s = e ∙ rw (p, q, s)
 
 stop-line : (n : ℕ) (o : Option ℕ) (a b : Option Refusal) (q : Refusal)
     → (a ≡ some q → b ≡ some q) → orRefuse n o a ≡ some q → orRefuse n o b ≡ some q

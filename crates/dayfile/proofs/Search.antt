@@ -1,15 +1,16 @@
 -- The search for the lowest number that passes a test: a loop that has found none yet, the end of it, and what its answer tells.
 -- Assumes nothing.
 use mathlib.Core.Bool.{Bool, true, false}
+use mathlib.Core.List.{List}
 use mathlib.Core.Logic.{⊎-elim}
 use mathlib.Core.Option.{Option, none, some}
-use mathlib.Core.Path.{_≡_, refl, sym, _∙_, ap}
+use mathlib.Core.Path.{_≡_, refl, sym, _∙_, ap, ap₂}
 use Prim.Native.Nat.{ℕ, zero, suc, _+_, _-_, _*_, _≤_, _<_, zero-le}
 use native.Mathlib.Nat.{le-of-suc-le-suc, not-suc-le-zero, eq-or-lt-of-le}
 use native.Mathlib.Numerals.{add-one}
 use native.Mathlib.Omega.{arith}
 use Rattle.model.specs.Lowest.{when, orElse, lowest}
-use Rattle.dayfile.specs.Table.{offset}
+use Rattle.dayfile.specs.Table.{offset, outside}
 use Rattle.dayfile.proofs.Tests.{when-none}
 
 -- ---- a search in progress
@@ -102,6 +103,11 @@ module _ {bad : ℕ → Bool} {at n end : ℕ} where
   walk-end w l =
       let h = w .here in
       let e = w .ends in ap (offset (λ i. at + 2 * i)) (search-end (w .search) (omega arith))
+
+-- the fields of a body, where its start and their number are told
+pub outside-as : (f : List ℕ) (low high : ℕ) {r : Option ℕ} {a b n m : ℕ}
+    → r ≡ outside f a n low high → a ≡ b → n ≡ m → r ≡ outside f b m low high
+outside-as f low high h p q = h ∙ ap₂ (λ (a n : ℕ). outside f a n low high) p q
 
 -- ---- what the answer tells
 

@@ -1,12 +1,12 @@
 -- Tests joined by `and`, chosen by `cond`, and the line of a table that holds where a test fails.
 -- Assumes nothing.
 use mathlib.Core.Bool.{Bool, true, false, not, cond, _&&_}
-use mathlib.Core.Option.{none, some}
+use mathlib.Core.Option.{Option, none, some}
 use mathlib.Core.Path.{_≡_, refl, sym, _∙_, ap, ap₂}
 use Prim.Native.Nat.{ℕ, _≤_}
 use native.Mathlib.Omega.{arith}
-use lib.Dec.{leb}
-use borrow.Author.Tests.{leb-true, le-leb}
+use lib.Dec.{leb, eqb}
+use borrow.Author.Tests.{leb-true, le-leb, eq-eqb, ne-eqb}
 use Rattle.model.specs.Lowest.{when}
 use Rattle.dayfile.specs.Table.{within}
 
@@ -26,6 +26,12 @@ cond-yes x y p = ap (λ (b : Bool). cond b x y) (sym p)
 pub cond-no : {A : Type 0} {t : Bool} (x y : A) → t ≡ false → y ≡ cond t x y
 cond-no x y p = ap (λ (b : Bool). cond b x y) (sym p)
 
+pub agree : (a b : ℕ) → a ≡ b → not (eqb a b) ≡ false
+agree a b e = ap not (eq-eqb a b e)
+
+pub differ : (a b : ℕ) → (a ≡ b → ⊥) → not (eqb a b) ≡ true
+differ a b n = ap not (ne-eqb a b n)
+
 -- ---- low to high
 
 pub within-low : (low high x : ℕ) → within low high x ≡ true → low ≤ x
@@ -43,6 +49,14 @@ high-as low high {x} {y} q e = within-high low high x (ap (within low high) q �
 
 pub is-within : (low high x : ℕ) → low ≤ x → x ≤ high → within low high x ≡ true
 is-within low high x h k = ap₂ (λ (a b : Bool). a && b) (le-leb low x h) (le-leb x high k)
+
+-- the code's test of a number that is told
+pub within-as : (low high : ℕ) {t : Bool} {x y : ℕ} → t ≡ within low high x → x ≡ y → t ≡ within low high y
+within-as low high e q = e ∙ ap (within low high) q
+
+pub outside-at-as : (low high at : ℕ) {r : Option ℕ} {x y : ℕ}
+    → r ≡ when (not (within low high x)) at → x ≡ y → r ≡ when (not (within low high y)) at
+outside-at-as low high at e q = e ∙ ap (λ (x : ℕ). when (not (within low high x)) at) q
 
 -- ---- a line whose condition is a test, or that a test fails: t is the code's test
 
