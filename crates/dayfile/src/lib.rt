@@ -1,4 +1,5 @@
-// The day file: the types and the tests that reading and writing share. The format is defined in specs/, its laws are in proofs/Theorems.antt.
+// The day file: the types and the tests that reading and writing share. The format is defined in specs/, and its laws are in
+// proofs/Theorems.antt.
 ghost use mathlib.Core.Path.{_≡_};
 ghost use mathlib.Core.Bool.{not};
 ghost use mathlib.Core.List.{[], _∷_};

@@ -7,8 +7,9 @@ use Rattle.refusals.proofs.contents.check_entries.Tie as tie
 returns : tie.Need-returns
 unfolding contentsLines
 returns c =
-    let t = c .before in
-    three-as 4 (c .first-of .ensures) (t .before .before .wrong-kind .ensures) (t .before .wrong-start .ensures) (t .wrong-end .ensures)
+    let z = c .before in
+    let y = z .before in
+    three-as 4 (c .first-of .ensures) (y .before .wrong-kind .ensures) (y .wrong-start .ensures) (z .wrong-end .ensures)
 
 pub check-entries-spec : {M : Type 1} → statement M
 check-entries-spec =

@@ -7,8 +7,9 @@ use Rattle.refusals.proofs.contents.check_header.Tie as tie
 returns : tie.Need-returns
 unfolding contentsLines
 returns c =
-    let t = c .before in
-    three-as 1 (c .first-of .ensures) (t .before .before .too-short .ensures) (t .before .wrong-count .ensures) (t .contents-cut .ensures)
+    let z = c .before in
+    let y = z .before in
+    three-as 1 (c .first-of .ensures) (y .before .too-short .ensures) (y .wrong-count .ensures) (z .contents-cut .ensures)
 
 pub check-header-spec : {M : Type 1} → statement M
 check-header-spec =

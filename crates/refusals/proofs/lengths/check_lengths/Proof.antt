@@ -7,8 +7,9 @@ use Rattle.refusals.proofs.lengths.check_lengths.Tie as tie
 returns : tie.Need-returns
 unfolding lengthLines
 returns c =
-    let t = c .before in
-    three-as 7 (c .first-of .ensures) (t .before .before .wrong-seats .ensures) (t .before .wrong-windows .ensures) (t .wrong-grid .ensures)
+    let z = c .before in
+    let y = z .before in
+    three-as 7 (c .first-of .ensures) (y .before .wrong-seats .ensures) (y .wrong-windows .ensures) (z .wrong-grid .ensures)
 
 pub check-lengths-spec : {M : Type 1} → statement M
 check-lengths-spec =

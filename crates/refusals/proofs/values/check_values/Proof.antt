@@ -7,8 +7,9 @@ use Rattle.refusals.proofs.values.check_values.Tie as tie
 returns : tie.Need-returns
 unfolding valueLines
 returns c =
-    let t = c .before in
-    three-as 10 (c .first-of .ensures) (t .before .before .class-outside .ensures) (t .before .supply-outside .ensures) (t .cap-outside .ensures)
+    let z = c .before in
+    let y = z .before in
+    three-as 10 (c .first-of .ensures) (y .before .class-outside .ensures) (y .supply-outside .ensures) (z .cap-outside .ensures)
 
 pub check-values-spec : {M : Type 1} → statement M
 check-values-spec =
