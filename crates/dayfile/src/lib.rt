@@ -56,7 +56,8 @@ pub fn outside_at(low: usize, high: usize, x: usize, at: usize) -> Found
     }
 }
 
-// The refusal of the first of three lines that holds; they are numbered from `number` on.
+// The refusal of the first of three lines that holds; they are numbered from `number` on. A line of the table stands alone, so all three
+// can be looked up first.
 pub fn first_of(number: u8, a: Found, b: Found, c: Found) -> Check
     requires { ⌜ number < 100 ⌝ }
     ensures { λ r. ⌜ refused r ≡ firstOf (line number (found a) ∷ line (number + 1) (found b) ∷ line (number + 2) (found c) ∷ []) ⌝ }

@@ -117,12 +117,12 @@ fn check_values(book: Book, caps: [[u16; 24]; 32], at: usize) -> Check
     requires { ⌜ (book .seats ≤ 32) × (book .windows ≤ 24) × (at < 100) ⌝ }
     ensures { λ r. ⌜ refused r ≡ firstOf (valuesIn book caps at) ⌝ }
 {
-    let supplies = at + 2 * book.seats;
-    let caps_at = supplies + 2 * book.windows;
+    let supplies_at = at + 2 * book.seats;
+    let caps_at = supplies_at + 2 * book.windows;
     first_of(
         10,
         class_outside(book, at),
-        supply_outside(book, supplies),
+        supply_outside(book, supplies_at),
         cap_outside(book, caps, caps_at),
     )
 }
