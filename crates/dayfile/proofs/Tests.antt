@@ -51,12 +51,12 @@ pub is-within : (low high x : ℕ) → low ≤ x → x ≤ high → within low h
 is-within low high x h k = ap₂ (λ (a b : Bool). a && b) (le-leb low x h) (le-leb x high k)
 
 -- the code's test of a number that is told
-pub within-as : (low high : ℕ) {t : Bool} {x y : ℕ} → t ≡ within low high x → x ≡ y → t ≡ within low high y
-within-as low high e q = e ∙ ap (within low high) q
+pub within-as : (low high x : ℕ) {t : Bool} {y : ℕ} → t ≡ within low high x → x ≡ y → t ≡ within low high y
+within-as low high x e q = e ∙ ap (within low high) q
 
-pub outside-at-as : (low high at : ℕ) {r : Option ℕ} {x y : ℕ}
+pub outside-at-as : (low high x at : ℕ) {r : Option ℕ} {y : ℕ}
     → r ≡ when (not (within low high x)) at → x ≡ y → r ≡ when (not (within low high y)) at
-outside-at-as low high at e q = e ∙ ap (λ (x : ℕ). when (not (within low high x)) at) q
+outside-at-as low high x at e q = e ∙ ap (λ (x : ℕ). when (not (within low high x)) at) q
 
 -- ---- a line whose condition is a test, or that a test fails: t is the code's test
 

@@ -6,7 +6,7 @@ use Rattle.refusals.proofs.contents.wrong_count.Tie as tie
 
 returns : tie.Need-returns
 unfolding line2
-returns c = outside-at-as 3 known 0 (c .outside-at .ensures) (c .before .count .ensures .0)
+returns c = let n = c .before .count in outside-at-as 3 known (n .result) 0 (c .outside-at .ensures) (n .ensures .0)
 
 pub wrong-count-spec : {M : Type 1} → statement M
 wrong-count-spec = tie.close (tie.spec (λ c κs. search needs) (λ c κs. search needs) returns)

@@ -21,14 +21,16 @@ returns c =
     let s = c .before .before in
     let t = s .before .before in
     let cells = ap₂ (λ (a b : ℕ). a * b) (c .before .seats .ensures .0) (c .windows .ensures .0) in
-    let grid = within-as 3 4 (t .within .ensures) (t .before .kind .ensures .0) in
+    let k = t .before .kind in
+    let grid = within-as 3 4 (k .result) (t .within .ensures) (k .ensures .0) in
     ap₂ (λ (a b : ℕ). eqb a (2 * b)) (s .size .ensures .0) cells ∙ cond-yes _ _ (sym grid ∙ s .before .if1 .taken)
 
 returns-2 : tie.Need-returns-2
 unfolding gridRight
 returns-2 c =
     let t = c .before in
-    let grid = within-as 3 4 (t .within .ensures) (t .before .kind .ensures .0) in cond-no _ _ (sym grid ∙ c .if1 .left)
+    let k = t .before .kind in
+    let grid = within-as 3 4 (k .result) (t .within .ensures) (k .ensures .0) in cond-no _ _ (sym grid ∙ c .if1 .left)
 
 pub grid-right-spec : {M : Type 1} → statement M
 grid-right-spec =

@@ -24,7 +24,8 @@ returns c =
     let t = c .before in
     let l = t .before .before .before in
     let a = l .before .before .args in
-    let told = within-as (a .low) (a .high) (t .within .ensures) (t .before .field .ensures .0) in
+    let f = t .before .field in
+    let told = within-as (a .low) (a .high) (f .result) (t .within .ensures) (f .ensures .0) in
     walk-hit (l .loop .inv) (omega arith) (turned told (c .if1 .taken))
 
 loop-again : tie.Need-loop-again Inv-loop μ-loop
@@ -32,7 +33,8 @@ loop-again c =
     let t = c .before in
     let l = t .before .before .before in
     let a = l .before .before .args in
-    let told = within-as (a .low) (a .high) (t .within .ensures) (t .before .field .ensures .0) in
+    let f = t .before .field in
+    let told = within-as (a .low) (a .high) (f .result) (t .within .ensures) (f .ensures .0) in
     walk-on (l .loop .inv) (omega arith) (turned told (c .if1 .left))
 
 returns-2 : tie.Need-returns-2 Inv-loop μ-loop

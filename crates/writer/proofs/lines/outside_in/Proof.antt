@@ -26,7 +26,8 @@ returns c =
     let t = c .before in
     let l = t .before .before .before in
     let a = l .before .before .args in
-    let told = within-as (a .low) (a .high) (t .within .ensures) (t .before .number .ensures .0) in
+    let x = t .before .number in
+    let told = within-as (a .low) (a .high) (x .result) (t .within .ensures) (x .ensures .0) in
     ap (offset (λ k. a .at + 2 * k)) (search-hit (l .loop .inv) (omega arith) (turned told (c .if1 .taken)))
     ∙ sized-search (a .low) (a .high) (a .n) (now (a .src)) (a .at)
 
@@ -35,7 +36,8 @@ loop-again c =
     let t = c .before in
     let l = t .before .before .before in
     let a = l .before .before .args in
-    let told = within-as (a .low) (a .high) (t .within .ensures) (t .before .number .ensures .0) in
+    let x = t .before .number in
+    let told = within-as (a .low) (a .high) (x .result) (t .within .ensures) (x .ensures .0) in
     search-on (l .loop .inv) (omega arith) (turned told (c .if1 .left))
 
 returns-2 : tie.Need-returns-2 Inv-loop μ-loop
