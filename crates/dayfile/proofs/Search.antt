@@ -1,15 +1,16 @@
 -- The search for the lowest number that passes a test: a loop that has found none yet, the end of it, and what its answer tells.
 -- Assumes nothing.
-use mathlib.Core.Bool.{Bool, true, false, not}
+use mathlib.Core.Bool.{Bool, true, false}
+use mathlib.Core.List.{List}
 use mathlib.Core.Logic.{⊎-elim}
 use mathlib.Core.Option.{Option, none, some}
-use mathlib.Core.Path.{_≡_, refl, sym, _∙_, ap}
-use Prim.Native.Nat.{ℕ, zero, suc, _+_, _-_, _≤_, _<_}
+use mathlib.Core.Path.{_≡_, refl, sym, _∙_, ap, ap₂}
+use Prim.Native.Nat.{ℕ, zero, suc, _+_, _-_, _*_, _≤_, _<_, zero-le}
 use native.Mathlib.Nat.{le-of-suc-le-suc, not-suc-le-zero, eq-or-lt-of-le}
 use native.Mathlib.Numerals.{add-one}
 use native.Mathlib.Omega.{arith}
 use Rattle.model.specs.Lowest.{when, orElse, lowest}
-use Rattle.dayfile.specs.Table.{offset}
+use Rattle.dayfile.specs.Table.{offset, outside}
 use Rattle.dayfile.proofs.Tests.{when-none}
 
 -- ---- a search in progress
@@ -47,25 +48,66 @@ module _ (bad : ℕ → Bool) where
   pub none-here : {i n m : ℕ} → lowest i bad ≡ none → i ≤ n → n ≤ i → n ≡ m → none ≡ lowest m bad
   none-here {i} {n} {m} h l g q = sym (ap (λ (k : ℕ). lowest k bad) {x = m} {y = i} (omega arith) ∙ h)
 
--- the same, where the code's test t is that a place is right
+-- ---- the loop that searches n places, of m in all: `while i < n { if bad(i) { return i; } i += 1; }`
 
-module _ (right : ℕ → Bool) where
-  abbrev pub wrong : ℕ → Bool
-  wrong k = not (right k)
+-- none of the places before i is bad
+pub record Searching (bad : ℕ → Bool) (m n i : ℕ) : Type 0 where
+  pub inside : i ≤ n
+  pub whole : n ≡ m
+  pub clear : lowest i bad ≡ none
 
-  pub none-yet : none ≡ lowest 0 wrong
-  none-yet = none-first wrong
+module _ {bad : ℕ → Bool} {m n : ℕ} where
+  pub search-first : n ≡ m → Searching bad m n 0
+  search-first e = record { inside = zero-le; whole = e; clear = sym (none-first bad) }
 
-  pub passed : {i : ℕ} {t : Bool} → lowest i wrong ≡ none → t ≡ right i → t ≡ true → lowest (i + 1) wrong ≡ none
-  passed h e p = none-more wrong h (ap not (sym e ∙ p))
+  pub search-on : {i : ℕ} → Searching bad m n i → i < n → bad i ≡ false → Searching bad m n (i + 1)
+  search-on s l p = record { inside = omega arith; whole = s .whole; clear = none-more bad (s .clear) p }
 
-  pub found-at : (at : ℕ → ℕ) {i n m : ℕ} {t : Bool}
-      → lowest i wrong ≡ none → t ≡ right i → t ≡ false → i < n → n ≡ m → some (at i) ≡ offset at (lowest m wrong)
-  found-at at h e p l q = ap (offset at) (found-here wrong h (ap not (sym e ∙ p)) l q)
+  pub search-hit : {i : ℕ} → Searching bad m n i → i < n → bad i ≡ true → some i ≡ lowest m bad
+  search-hit s l p = found-here bad (s .clear) p l (s .whole)
 
-  pub none-at : (at : ℕ → ℕ) {i n m : ℕ}
-      → lowest i wrong ≡ none → i ≤ n → n ≤ i → n ≡ m → none ≡ offset at (lowest m wrong)
-  none-at at h l g q = ap (offset at) (none-here wrong h l g q)
+  pub search-end : {i : ℕ} → Searching bad m n i → n ≤ i → none ≡ lowest m bad
+  search-end s l = none-here bad (s .clear) (s .inside) l (s .whole)
+
+-- the same loop by the offsets of the places, two bytes each, from `at` on: `while p + 1 < end { if bad(p) { return p; } p += 2; }`
+pub record Walking (bad : ℕ → Bool) (at n end p : ℕ) : Type 0 where
+  pub place : ℕ
+  pub here : p ≡ at + 2 * place
+  pub ends : end ≡ at + 2 * n
+  pub search : Searching (λ i. bad (at + 2 * i)) n n place
+
+module _ {bad : ℕ → Bool} {at n end : ℕ} where
+  pub walk-first : end ≡ at + 2 * n → Walking bad at n end at
+  walk-first e = record { place = 0; here = omega arith; ends = e; search = search-first refl }
+
+  pub walk-on : {p : ℕ} → Walking bad at n end p → p + 1 < end → bad p ≡ false → Walking bad at n end (p + 2)
+  walk-on w l b =
+      let h = w .here in
+      let e = w .ends in
+      record {
+        place = w .place + 1;
+        here = omega arith;
+        ends = e;
+        search = search-on (w .search) (omega arith) (ap bad (sym h) ∙ b);
+      }
+
+  pub walk-hit : {p : ℕ} → Walking bad at n end p → p + 1 < end → bad p ≡ true
+      → some p ≡ offset (λ i. at + 2 * i) (lowest n (λ i. bad (at + 2 * i)))
+  walk-hit w l b =
+      let h = w .here in
+      let e = w .ends in
+      ap some h ∙ ap (offset (λ i. at + 2 * i)) (search-hit (w .search) (omega arith) (ap bad (sym h) ∙ b))
+
+  pub walk-end : {p : ℕ} → Walking bad at n end p → end ≤ p + 1
+      → none ≡ offset (λ i. at + 2 * i) (lowest n (λ i. bad (at + 2 * i)))
+  walk-end w l =
+      let h = w .here in
+      let e = w .ends in ap (offset (λ i. at + 2 * i)) (search-end (w .search) (omega arith))
+
+-- the fields of a body, where its start and their number are told
+pub outside-as : (f : List ℕ) (low high : ℕ) {r : Option ℕ} {a b n m : ℕ}
+    → r ≡ outside f a n low high → a ≡ b → n ≡ m → r ≡ outside f b m low high
+outside-as f low high h p q = h ∙ ap₂ (λ (a n : ℕ). outside f a n low high) p q
 
 -- ---- what the answer tells
 

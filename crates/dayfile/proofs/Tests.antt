@@ -5,8 +5,8 @@ use mathlib.Core.Option.{Option, none, some}
 use mathlib.Core.Path.{_≡_, refl, sym, _∙_, ap, ap₂}
 use Prim.Native.Nat.{ℕ, _≤_}
 use native.Mathlib.Omega.{arith}
-use lib.Dec.{leb}
-use borrow.Author.Tests.{leb-true, le-leb}
+use lib.Dec.{leb, eqb}
+use borrow.Author.Tests.{leb-true, le-leb, eq-eqb, ne-eqb}
 use Rattle.model.specs.Lowest.{when}
 use Rattle.dayfile.specs.Table.{within}
 
@@ -26,6 +26,12 @@ cond-yes x y p = ap (λ (b : Bool). cond b x y) (sym p)
 pub cond-no : {A : Type 0} {t : Bool} (x y : A) → t ≡ false → y ≡ cond t x y
 cond-no x y p = ap (λ (b : Bool). cond b x y) (sym p)
 
+pub agree : (a b : ℕ) → a ≡ b → not (eqb a b) ≡ false
+agree a b e = ap not (eq-eqb a b e)
+
+pub differ : (a b : ℕ) → (a ≡ b → ⊥) → not (eqb a b) ≡ true
+differ a b n = ap not (ne-eqb a b n)
+
 -- ---- low to high
 
 pub within-low : (low high x : ℕ) → within low high x ≡ true → low ≤ x
@@ -44,6 +50,14 @@ high-as low high {x} {y} q e = within-high low high x (ap (within low high) q �
 pub is-within : (low high x : ℕ) → low ≤ x → x ≤ high → within low high x ≡ true
 is-within low high x h k = ap₂ (λ (a b : Bool). a && b) (le-leb low x h) (le-leb x high k)
 
+-- the code's test of a number that is told
+pub within-as : (low high x : ℕ) {t : Bool} {y : ℕ} → t ≡ within low high x → x ≡ y → t ≡ within low high y
+within-as low high x e q = e ∙ ap (within low high) q
+
+pub outside-at-as : (low high x at : ℕ) {r : Option ℕ} {y : ℕ}
+    → r ≡ when (not (within low high x)) at → x ≡ y → r ≡ when (not (within low high y)) at
+outside-at-as low high x at e q = e ∙ ap (λ (x : ℕ). when (not (within low high x)) at) q
+
 -- ---- a line whose condition is a test, or that a test fails: t is the code's test
 
 pub yes-when : {b : Bool} (p : ℕ) → b ≡ true → some p ≡ when b p
@@ -57,6 +71,10 @@ keeps p e h = ap (λ (x : Bool). when (not x) p) (sym h ∙ e)
 
 pub fails : {t b : Bool} (p : ℕ) → t ≡ b → t ≡ false → some p ≡ when (not b) p
 fails p e h = ap (λ (x : Bool). when (not x) p) (sym h ∙ e)
+
+-- the code's test, turned round
+pub turned : {t b v : Bool} → t ≡ b → not t ≡ v → not b ≡ v
+turned e h = ap not (sym e) ∙ h
 
 pub when-none : (t : Bool) (p : ℕ) → when t p ≡ none → t ≡ false
 when-none false p e = refl

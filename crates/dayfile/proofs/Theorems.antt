@@ -9,12 +9,12 @@ use Prim.Native.Nat.{ℕ, _≤_}
 use native.Mathlib.Omega.{arith}
 use lib.ListN.{length}
 use Rattle.model.specs.Lowest.{isSome}
-use Rattle.model.specs.Book.{Book, Grid, Shaped, SheetOf, seats, windows}
+use Rattle.model.specs.Book.{Book, Grid}
 use Rattle.dayfile.specs.Bounds.{Fit, SheetFit, TwoByte}
 use Rattle.dayfile.specs.Layout.{Bytes, bookOf, sheetOf}
 use Rattle.dayfile.specs.File.{fileOf}
-use Rattle.dayfile.specs.Table.{Refusal, firstOf, readLines, writeLines, plannedLength}
-use Rattle.dayfile.specs.Outcome.{Outcome, turnedAway, answer, unless, readFile, NoneHolds, FirstHolds}
+use Rattle.dayfile.specs.Table.{Refusal, firstOf, readLines, writeLines}
+use Rattle.dayfile.specs.Outcome.{turnedAway, answer, unless, readFile, NoneHolds, FirstHolds}
 use Rattle.dayfile.specs.Memory.{Holds, held, heldIf, bookIn, sheetIn, fileIn, refused, reading}
 use Rattle.dayfile.specs.declared.Book as Memory
 use Rattle.dayfile.specs.declared.Check as Check

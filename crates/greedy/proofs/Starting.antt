@@ -30,13 +30,13 @@ module _ (n m : ℕ) (caps : Grid) (supplies : List ℕ) (g : Grid) (f : Filled 
     -- a seat below its cap has the window's cells together below its caps together, so the supply is handed out
     full : Wasteful I (cell g) → ⊥
     full w =
-        let p : w .seat < n = omega (arith, h .seats, w .in-seat) in
-        let q : w .window < m = omega (arith, h .windows, w .in-window) in
-        let below : cell g (w .seat) (w .window) < cell caps (w .seat) (w .window) = omega (arith, w .room, h .cap (w .seat) (w .window) p q) in
-        let less =
-        sum-lt n (λ i. cell g i (w .window)) (λ i. cell caps i (w .window)) (w .seat) (λ i a. f .within i (w .window) a q) p below
-        in
-        omega (arith, f .placed (w .window) q, together (w .window) q, h .supply (w .window) q, w .left, less)
+        let i : ℕ = w .seat in
+        let j : ℕ = w .window in
+        let p : i < n = omega (arith, h .seats, w .in-seat) in
+        let q : j < m = omega (arith, h .windows, w .in-window) in
+        let below : cell g i j < cell caps i j = omega (arith, w .room, h .cap i j p q) in
+        let less = sum-lt n (λ k. cell g k j) (λ k. cell caps k j) i (λ k a. f .within k j a q) p below in
+        omega (arith, f .placed j q, together j q, h .supply j q, w .left, less)
 
   pub started : Started n m caps supplies g
   started = record { feasible = feasible; full = full; past-seats = f .past-seats; past-windows = f .past-windows }

@@ -17,7 +17,7 @@ use Rattle.dayfile.specs.File.{flat}
 use Rattle.dayfile.specs.Memory.{sized, sizedGrid}
 use Rattle.dayfile.proofs.Tables.{sized-length, sized-at}
 use Rattle.dayfile.proofs.Grids.{sized-flat-length, sized-flat-none, sized-flat-more}
-use Rattle.dayfile.proofs.Search.{Lowest, found-here, none-all, lowest-none, lowest-some, offset-none, offset-some, same-search}
+use Rattle.dayfile.proofs.Search.{found-here, none-all, lowest-none, lowest-some, offset-none, offset-some, same-search}
 use Rattle.writer.specs.Lines.{outsideIn}
 
 lt-or-le : (a b : ℕ) → (a < b) ⊎ (b ≤ a)
