@@ -1,8 +1,8 @@
 -- The mark that is computed is the one that holds. Assumes nothing.
-use mathlib.Core.Path.{_≡_, refl, sym, ap, _∙_}
+use mathlib.Core.Path.{_≡_, refl, sym, _∙_}
 use mathlib.Core.Bool.{Bool, true, false, _&&_}
 use mathlib.Core.Logic.{_⊎_, inl, inr, _↔_}
-use mathlib.Core.Option.{Option, none, some}
+use mathlib.Core.Option.{none, some}
 use Prim.Native.Nat.{ℕ, _≤_, _<_}
 use native.Mathlib.Nat.{lt-trans}
 use native.Mathlib.Decide.{decLt}
@@ -13,11 +13,11 @@ use borrow.Author.Tests.{ltb-true, ltb-false, lt-ltb, le-ltb}
 use Rattle.fairness.specs.Instance.{Wasteful, placed}
 use Rattle.fairness.specs.Exchange.{improvesAt, tiesAt, Improvable, Tied}
 use Rattle.fairness.proofs.Theorems
-use Rattle.model.specs.Lowest.{lowest, isSome, orElse, andThen, getOr}
+use Rattle.model.specs.Lowest.{isSome}
 use Rattle.model.specs.Book.{Book, Grid, cell, seats, windows, instanceOf}
-use Rattle.model.specs.Search.{Found, Picked, search}
+use Rattle.model.specs.Search.{Found, Picked}
 use Rattle.model.specs.Marks.{Mark, wasteful, improvable, tied, settled, Wasted, Marked, seatBelow, wastedWindow, markOf}
-use Rattle.model.proofs.Tests.{and-true, or-true, not-true, true-not-false}
+use Rattle.model.proofs.Tests.{and-true, not-true, true-not-false}
 use Rattle.model.proofs.Lowest.{Lowest, Fails, lowest-is, lowest-fails, lowest-cases, isSome-lowest, isSome-Lowest}
 use Rattle.model.proofs.Meaning.{search-cases, search-some, search-none}
 
