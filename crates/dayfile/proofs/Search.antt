@@ -1,17 +1,15 @@
--- The search for the lowest number that passes a test: a loop that has found none yet, the end of it, and what its answer tells.
+-- Loops that search for the lowest number that passes a test, and what the offset of the answer tells.
 -- Assumes nothing.
 use mathlib.Core.Bool.{Bool, true, false}
 use mathlib.Core.List.{List}
-use mathlib.Core.Logic.{⊎-elim}
 use mathlib.Core.Option.{Option, none, some}
 use mathlib.Core.Path.{_≡_, refl, sym, _∙_, ap, ap₂}
-use Prim.Native.Nat.{ℕ, zero, suc, _+_, _-_, _*_, _≤_, _<_, zero-le}
-use native.Mathlib.Nat.{le-of-suc-le-suc, not-suc-le-zero, eq-or-lt-of-le}
+use Prim.Native.Nat.{ℕ, zero, suc, _+_, _*_, _≤_, _<_, zero-le}
 use native.Mathlib.Numerals.{add-one}
 use native.Mathlib.Omega.{arith}
-use Rattle.model.specs.Lowest.{when, orElse, lowest}
+use Rattle.model.specs.Lowest.{lowest}
+use Rattle.model.proofs.Lowest.{lowest-is, lowest-none}
 use Rattle.dayfile.specs.Table.{offset, outside}
-use Rattle.dayfile.proofs.Tests.{when-none}
 
 -- ---- a search in progress
 
@@ -27,23 +25,9 @@ module _ (bad : ℕ → Bool) where
   pub none-more : {i : ℕ} → lowest i bad ≡ none → bad i ≡ false → lowest (i + 1) bad ≡ none
   none-more {i} h p = ap (λ (n : ℕ). lowest n bad) (add-one i) ∙ none-next i h p
 
-  hit-now : (i : ℕ) → lowest i bad ≡ none → bad i ≡ true → lowest (suc i) bad ≡ some i
-  unfolding lowest
-  hit-now i h p = rw (h, p)
-
-  stays : (n i : ℕ) → lowest n bad ≡ some i → lowest (suc n) bad ≡ some i
-  unfolding lowest
-  stays n i h = rw h
-
-  hit : (d i : ℕ) → lowest i bad ≡ none → bad i ≡ true → lowest (suc (d + i)) bad ≡ some i
-  hit zero i h p = ap (λ (n : ℕ). lowest n bad) {x = suc (zero + i)} {y = suc i} (omega arith) ∙ hit-now i h p
-  hit (suc d) i h p =
-      ap (λ (n : ℕ). lowest n bad) {x = suc (suc d + i)} {y = suc (suc (d + i))} (omega arith)
-      ∙ stays (suc (d + i)) i (hit d i h p)
-
   pub found-here : {i n m : ℕ} → lowest i bad ≡ none → bad i ≡ true → i < n → n ≡ m → some i ≡ lowest m bad
   found-here {i} {n} {m} h p l q =
-      sym (ap (λ (k : ℕ). lowest k bad) {x = m} {y = suc ((m - suc i) + i)} (omega arith) ∙ hit (m - suc i) i h p)
+      sym (lowest-is m bad i (record { below = omega arith; passes = p; least = lowest-none i bad h }))
 
   pub none-here : {i n m : ℕ} → lowest i bad ≡ none → i ≤ n → n ≤ i → n ≡ m → none ≡ lowest m bad
   none-here {i} {n} {m} h l g q = sym (ap (λ (k : ℕ). lowest k bad) {x = m} {y = i} (omega arith) ∙ h)
@@ -111,10 +95,6 @@ outside-as f low high h p q = h ∙ ap₂ (λ (a n : ℕ). outside f a n low hig
 
 -- ---- what the answer tells
 
-pub or-none : (o q : Option ℕ) → orElse o q ≡ none → (o ≡ none) × (q ≡ none)
-or-none none q e = (refl, e)
-or-none (some p) q e = let z : _≡_ {A = ℕ} 0 1 = cc in absurd (omega arith)
-
 pub offset-none : (at : ℕ → ℕ) (o : Option ℕ) → offset at o ≡ none → o ≡ none
 offset-none at none e = refl
 offset-none at (some p) e = let z : _≡_ {A = ℕ} 0 1 = cc in absurd (omega arith)
@@ -122,48 +102,6 @@ offset-none at (some p) e = let z : _≡_ {A = ℕ} 0 1 = cc in absurd (omega ar
 pub offset-some : (at : ℕ → ℕ) (o : Option ℕ) (p : ℕ) → offset at o ≡ some p → (i : ℕ) × (o ≡ some i) × (p ≡ at i)
 offset-some at none p h = let z : _≡_ {A = ℕ} 0 1 = cc in absurd (omega arith)
 offset-some at (some i) p h = (i, refl, cc)
-
--- nothing found: no place passes
-pub lowest-none : (bad : ℕ → Bool) (n : ℕ) → lowest n bad ≡ none → (i : ℕ) → i < n → bad i ≡ false
-unfolding lowest
-lowest-none bad zero e i h = absurd (not-suc-le-zero h)
-lowest-none bad (suc n) e i h =
-    let p = or-none (lowest n bad) (when (bad n) n) e in
-    ⊎-elim (λ q. ap bad q ∙ when-none (bad n) n (p .1)) (λ l. lowest-none bad n (p .0) i l)
-    (eq-or-lt-of-le (le-of-suc-le-suc h))
-
--- a place found: it passes, and none below it does
-pub record Lowest (bad : ℕ → Bool) (n i : ℕ) : Type 0 where
-  pub inside : i < n
-  pub passes : bad i ≡ true
-  pub clear : lowest i bad ≡ none
-
-or-some : (bad : ℕ → Bool) (n i : ℕ) (o : Option ℕ) (b : Bool) → lowest n bad ≡ o → bad n ≡ b
-    → ((j : ℕ) → lowest n bad ≡ some j → Lowest bad n j) → orElse o (when b n) ≡ some i → Lowest bad (suc n) i
-or-some bad n i (some j) b e p k h =
-    let q : j ≡ i = cc in
-    let r = k i (e ∙ ap some q) in
-    let l = r .inside in record { inside = omega arith; passes = r .passes; clear = r .clear }
-or-some bad n i none true e p k h =
-    let q : n ≡ i = cc in
-    record {
-      inside = omega arith;
-      passes = ap bad (sym q) ∙ p;
-      clear = ap (λ (m : ℕ). lowest m bad) (sym q) ∙ e;
-    }
-or-some bad n i none false e p k h = let z : _≡_ {A = ℕ} 0 1 = cc in absurd (omega arith)
-
-pub lowest-some : (bad : ℕ → Bool) (n i : ℕ) → lowest n bad ≡ some i → Lowest bad n i
-unfolding lowest
-lowest-some bad zero i h = let z : _≡_ {A = ℕ} 0 1 = cc in absurd (omega arith)
-lowest-some bad (suc n) i h = or-some bad n i (lowest n bad) (bad n) refl refl (lowest-some bad n) h
-
--- no place passes: nothing found
-pub none-all : (bad : ℕ → Bool) (n : ℕ) → ((i : ℕ) → i < n → bad i ≡ false) → lowest n bad ≡ none
-none-all bad zero h = sym (none-first bad)
-none-all bad (suc n) h =
-    ap (λ (k : ℕ). lowest k bad) (sym (add-one n))
-    ∙ none-more bad (none-all bad n (λ i p. h i (omega arith))) (h n (omega arith))
 
 -- two tests that agree find the same
 pub same-search : (bad worse : ℕ → Bool) (n : ℕ) → ((i : ℕ) → i < n → bad i ≡ worse i) → lowest n bad ≡ lowest n worse

@@ -8,6 +8,7 @@ use native.Mathlib.Omega.{arith}
 use lib.Dec.{leb, eqb}
 use borrow.Author.Tests.{leb-true, le-leb, eq-eqb, ne-eqb}
 use Rattle.model.specs.Lowest.{when}
+use Rattle.model.proofs.Tests.{and-true}
 use Rattle.dayfile.specs.Table.{within}
 
 pub and-yes : {a : Bool} (b : Bool) → a ≡ true → b ≡ (a && b)
@@ -15,10 +16,6 @@ and-yes b p = ap (λ (x : Bool). x && b) (sym p)
 
 pub and-no : {a : Bool} (b : Bool) → a ≡ false → a ≡ (a && b)
 and-no b p = p ∙ ap (λ (x : Bool). x && b) (sym p)
-
-pub both-true : (a b : Bool) → (a && b) ≡ true → (a ≡ true) × (b ≡ true)
-both-true true b e = (refl, e)
-both-true false b e = let z : _≡_ {A = ℕ} 0 1 = cc in absurd (omega arith)
 
 pub cond-yes : {A : Type 0} {t : Bool} (x y : A) → t ≡ true → x ≡ cond t x y
 cond-yes x y p = ap (λ (b : Bool). cond b x y) (sym p)
@@ -35,10 +32,10 @@ differ a b n = ap not (ne-eqb a b n)
 -- ---- low to high
 
 pub within-low : (low high x : ℕ) → within low high x ≡ true → low ≤ x
-within-low low high x e = leb-true low x (both-true (leb low x) (leb x high) e .0)
+within-low low high x e = leb-true low x (and-true (leb low x) (leb x high) .0 e .0)
 
 pub within-high : (low high x : ℕ) → within low high x ≡ true → x ≤ high
-within-high low high x e = leb-true x high (both-true (leb low x) (leb x high) e .1)
+within-high low high x e = leb-true x high (and-true (leb low x) (leb x high) .0 e .1)
 
 -- the same of a number that equals it
 pub low-as : (low high : ℕ) {x y : ℕ} → x ≡ y → within low high y ≡ true → low ≤ x

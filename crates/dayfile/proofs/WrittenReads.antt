@@ -11,6 +11,7 @@ use lib.ListN.{length, getD}
 use borrow.Author.Tests.{eq-eqb, le-ltb}
 use Rattle.model.specs.Lowest.{lowest, when, andThen}
 use Rattle.model.specs.Book.{Book, Grid, Shaped, seats, windows}
+use Rattle.model.proofs.Lowest.{lowest-fails}
 use Rattle.dayfile.specs.Bounds.{Fit, SheetFit}
 use Rattle.dayfile.specs.Layout.{field, count, contentsEnd, kind, start, size, ends, seatsIn, windowsIn, kindAt, startAt, sizeAt}
 use Rattle.dayfile.specs.Layout.{entryOf, fieldsAt, gridAt, bookOf, sheetOf}
@@ -19,7 +20,6 @@ use Rattle.dayfile.specs.Table.{firstOf, within, offset, known, kindRigh
 use Rattle.dayfile.specs.Table.{line1, line2, line3, line4, line5, line6, line7, line8, line9, line10, line11, line12}
 use Rattle.dayfile.specs.Table.{contentsLines, lengthLines, valueLines, optionLines, readLines}
 use Rattle.dayfile.proofs.Tests.{is-within, cond-no}
-use Rattle.dayfile.proofs.Search.{none-all}
 use Rattle.dayfile.proofs.Fields.{fields-at}
 use Rattle.dayfile.proofs.Grids.{flat-length, flat-cell, grid-there}
 use Rattle.dayfile.proofs.Container.{nth, before-all, file-size, count-is, kind-is, start-is, size-is, ends-is, body-is}
@@ -40,7 +40,7 @@ outside-none f at n low high xs e q h =
     let here : (i : ℕ) → i < n → field f (at + 2 * i) ≡ getD xs i 0 =
     λ i p. sym (fields-at f at (length xs) i (omega arith)) ∙ ap (λ (ys : List ℕ). getD ys i 0) q in
     ap (offset (λ i. at + 2 * i))
-    (none-all (λ i. not (within low high (field f (at + 2 * i)))) n
+    (lowest-fails n (λ i. not (within low high (field f (at + 2 * i))))
     (λ i p. ap (λ (x : ℕ). not (within low high x)) (here i p) ∙ ap not (h i (omega arith))))
 
 -- kinds 3 and 4 have grids of n numbers
@@ -156,7 +156,7 @@ module _ (b : Book) (o : Option Grid) (fit : Fit b) (sheet : SheetFit b o) where
   none-at : (at : ℕ → ℕ) (right : ℕ → Bool) → ((e : ℕ) → e < length ps → right e ≡ true)
       → offset at (lowest (count f) (λ e. not (right e))) ≡ none
   none-at at right h =
-      let c = count-f in ap (offset at) (none-all (λ e. not (right e)) (count f) (λ e l. ap not (h e (omega arith))))
+      let c = count-f in ap (offset at) (lowest-fails (count f) (λ e. not (right e)) (λ e l. ap not (h e (omega arith))))
 
   at4 : line4 f ≡ none
   unfolding line4
