@@ -14,7 +14,8 @@ use Rattle.dayfile.specs.Layout.{Bytes, contentsEnd}
 use Rattle.dayfile.specs.File.{Part, part, contents, bodies, fieldsOf, flat, flatIf, optPart, optParts, partsOf, assemble, fileOf}
 use Rattle.dayfile.specs.Table.{plannedLength}
 use Rattle.dayfile.specs.Memory.{sizedGrid}
-use Rattle.model.proofs.Grids.{table-length, table-at}
+use Rattle.fairness.proofs.Lists.{table-length}
+use Rattle.model.proofs.Grids.{table-at}
 use Rattle.dayfile.proofs.Tables.{sized-at, sized-row, sized-shaped}
 use Rattle.dayfile.proofs.Fields.{bytes-small}
 use Rattle.dayfile.proofs.Grids.{flat-length, flat-cell}

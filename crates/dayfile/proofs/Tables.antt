@@ -11,7 +11,8 @@ use lib.ListN.{length, take, getD, set, replicate, length-set, List·getD-eq-def
 use lib.Seq.{ext-getD, getD-set-same, getD-set-other, getD-take, length-take-le}
 use Rattle.fairness.specs.Leximin.{table}
 use Rattle.model.specs.Book.{Grid, Shaped}
-use Rattle.model.proofs.Grids.{table-length, table-at, table-same}
+use Rattle.fairness.proofs.Lists.{table-length}
+use Rattle.model.proofs.Grids.{table-at, table-same}
 use Rattle.dayfile.specs.Memory.{sized, sizedGrid}
 
 module _ {A : Type 0} where
