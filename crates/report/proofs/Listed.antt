@@ -18,6 +18,7 @@ use Rattle.dayfile.specs.Table.{refuse, firstOf, line16, readLines, markerLines
 use Rattle.dayfile.specs.Outcome.{Outcome, turnedAway, answer}
 use Rattle.dayfile.specs.Memory.{front}
 use Rattle.dayfile.specs.declared.Written as Written
+use Rattle.dayfile.proofs.Answers.{answered}
 use Rattle.dayfile.proofs.Lines.{none-parts}
 use Rattle.dayfile.proofs.Sound.{sound}
 use Rattle.dayfile.proofs.Accepted.{fits}
@@ -26,7 +27,6 @@ use Rattle.listing.proofs.Instance.{Agree, at-front}
 use Rattle.marker.specs.declared.Marking.{Marking}
 use Rattle.marker.specs.declared.Marking.the-variants.{Refused}
 use Rattle.marker.specs.Marking.{sheetIn, markFile, told, results, PathWritten, BufferAfter, Marks}
-use Rattle.marker.proofs.Accepted.{answered}
 use Rattle.report.specs.Report.{textOf, MovesOf, Listed, Lists}
 
 -- ---- the output buffer is long enough, or not
