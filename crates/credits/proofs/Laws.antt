@@ -1,22 +1,18 @@
 -- What the exported calls read, write and answer, and how large the numbers of a mark can be. Assumes nothing.
 use mathlib.Core.Path.{_≡_, refl, ap, _∙_}
-use mathlib.Core.Bool.{Bool, not}
+use mathlib.Core.Bool.{not}
 use mathlib.Core.List.{List, _++_}
 use mathlib.Core.Option.{Option, none, some}
-use Prim.Native.Nat.{ℕ, _≤_}
+use Prim.Native.Nat.{ℕ}
 use native.Mathlib.Omega.{arith}
 use lib.Dec.{eqb}
 use lib.ListN.{length}
-use Rattle.fairness.specs.Exchange.{improvesAt, tiesAt}
-use Rattle.fairness.proofs.Theorems.{path-length}
-use Rattle.model.specs.Book.{Book, Grid, cell, instanceOf}
-use Rattle.model.specs.Search.{Found, Picked}
-use Rattle.model.specs.Marks.{Mark, wasteful, improvable, tied, settled, Marked, markOf, resultOf}
-use Rattle.model.proofs.Marks.{mark-means}
-use Rattle.dayfile.specs.Bounds.{Fit}
+use Rattle.model.specs.Book.{Grid}
+use Rattle.model.specs.Marks.{markOf}
+use Rattle.model.proofs.Marks.{within-book}
 use Rattle.dayfile.specs.Layout.{bookOf, sheetOf}
 use Rattle.dayfile.specs.Table.{Refusal, refuse, firstOf, readLines, markerLines, bufferLines, markLines, writeLines}
-use Rattle.dayfile.specs.Outcome.{answer, unless, readFile}
+use Rattle.dayfile.specs.Outcome.{unless, readFile}
 use Rattle.dayfile.specs.Memory.{fileIn, written, Writes}
 use Rattle.dayfile.specs.declared.Written.{Written}
 use Rattle.dayfile.proofs.Lines.{none-parts}
@@ -80,24 +76,6 @@ module _ {file before end : List ℕ} where
 
 -- ---- a mark's window, seat and number of moves
 
-module _ (b : Book) (s : Grid) (fit : Fit b) where
-  -- a chain has fewer moves than there are seats
-  few-moves : (test : ℕ → ℕ → Bool) (f : Found) → Picked b s test f → f .moves ≤ 32
-  unfolding instanceOf
-  few-moves test f p =
-      let chain = p .shortest in
-      let short = path-length (instanceOf b) (cell s) (f .receiver) (f .donor) (chain .moves) (p .seat) (chain .path) in
-      omega (arith, short, chain .count, fit .seats-high)
-
-  small-marked : (m : Mark) → Marked b s m → Small (answer (resultOf m))
-  small-marked (wasteful j i) w = (omega (arith, w .window, fit .windows-high), omega (arith, w .seat, fit .seats-high), omega arith)
-  small-marked (improvable f) p = (omega arith, omega arith, few-moves (improvesAt (instanceOf b) (cell s)) f (p .1))
-  small-marked (tied f) p = (omega arith, omega arith, few-moves (tiesAt (instanceOf b) (cell s)) f (p .2))
-  small-marked settled p = (omega arith, omega arith, omega arith)
-
-  small-mark : Small (answer (resultOf (markOf b s)))
-  small-mark = small-marked (markOf b s) (mark-means b s (markOf b s) .0 refl)
-
 -- whatever the marker answers for a file and a buffer is small
 pub small : {f before after : List ℕ} {r : Marking} → Marks f before after r → Small (told r)
 unfolding markFile markLines
@@ -108,4 +86,9 @@ small {f} {before} m = rw (m .says) (go (firstOf (markLines f (length before))) 
     go (some q) e = tt
     go none e =
         let read = none-parts (readLines f) (markerLines f ++ bufferLines (length before) 93) e .0 in
-        small-mark (bookOf f) (sheetIn f) (fits f (sound f read))
+        let fit = fits f (sound f read) in
+        let within = within-book (bookOf f) (sheetIn f) in (
+          omega (arith, within .window, fit .windows-high),
+          omega (arith, within .seat, fit .seats-high),
+          omega (arith, within .moves, fit .seats-high),
+        )
