@@ -7,9 +7,9 @@ use tree::Tree;
 
 // What stands at the top of a seat, as the order sees it.
 struct Credit {
-    pub height: u32,
-    pub weight: u32,
-    pub seat: usize,
+    height: u32,
+    weight: u32,
+    seat: usize,
 }
 
 // What a seat is chosen for: the receiver is the one whose next credit comes first, the donor the one whose last credit comes last.

@@ -19,11 +19,7 @@ sum-change (suc n) f g k l h = go (λ b. sum-change n f g k b h) (ℕ-discrete n
         omega (arith, sum-suc n f, sum-suc n g, same, ap f e, ap g e)
     go ih (no d) = omega (arith, sum-suc n f, sum-suc n g, ih (omega arith), h n d)
 
-module _ (n : ℕ) (S R : ℕ → ℕ → ℕ) (i j v : ℕ) (p : Written S i j v R) where
-  -- the window that is written
-  pub column-here : i < n → sum n (λ a. R a j) + S i j ≡ sum n (λ a. S a j) + v
-  column-here l = omega (arith, sum-change n (λ a. R a j) (λ a. S a j) i l (λ a d. p .seats a j d), p .here)
-
-  -- the others
-  pub column-other : (k : ℕ) → k ≢ j → sum n (λ a. R a k) ≡ sum n (λ a. S a k)
-  column-other k d = sum-eq n (λ a. R a k) (λ a. S a k) (λ a b. p .windows a k d)
+-- the window that is written
+pub column-here : (n : ℕ) (S R : ℕ → ℕ → ℕ) (i j v : ℕ) → Written S i j v R → i < n
+    → sum n (λ a. R a j) + S i j ≡ sum n (λ a. S a j) + v
+column-here n S R i j v p l = omega (arith, sum-change n (λ a. R a j) (λ a. S a j) i l (λ a d. p .seats a j d), p .here)

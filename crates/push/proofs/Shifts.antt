@@ -1,6 +1,6 @@
 -- Credits that go from a giver to a taker in one window, within what the giver has and what the taker has room for, leave a filled grid
 -- filled.
-use mathlib.Core.Path.{_≡_, ap, _∙_}
+use mathlib.Core.Path.{_≡_, _∙_}
 use mathlib.Core.Logic.{_≢_}
 use mathlib.Core.List.{List, [], _∷_}
 use Prim.Native.Nat.{ℕ, zero, suc, _+_, _-_, _≤_, _<_}
@@ -54,13 +54,7 @@ module _
 
     -- what the taker has then is at most its cap, also where it is the giver
     taker : cell (given g k w a) t w + a ≤ cell caps t w
-    taker =
-        elim (ℕ-discrete t k) [
-          | yes e ↦
-              let one : cell (given g k w a) t w ≡ cell g k w - a = rw e (first .here) in
-              omega (arith, one, ap (λ (i : ℕ). cell g i w) e, f .full w hw .within t ht)
-          | no d ↦ omega (arith, first .seats t w d, f .full w hw .within t ht)
-        ]
+    taker = omega (arith, given-le g k w a t w, f .full w hw .within t ht)
 
     other : (i j : ℕ) → j ≢ w → cell (taken (given g k w a) t w a) i j ≡ cell g i j
     other i j d = second .windows i j d ∙ first .windows i j d

@@ -34,6 +34,7 @@ fn note(
     givers[window] = with(givers[window], seat, unit <= cell);
 }
 
+// The same for the seats of a window.
 fn note_window(
     takers: &mut [u32; 32],
     givers: &mut [u32; 32],
@@ -50,6 +51,7 @@ fn note_window(
     }
 }
 
+// The same for all windows.
 pub fn note_all(
     takers: &mut [u32; 32],
     givers: &mut [u32; 32],
@@ -95,6 +97,7 @@ pub fn measure(
     heights[seat] = std::num::wrapping_add_u32(bases[seat], total);
 }
 
+// The same for all seats.
 pub fn measure_all(
     heights: &mut [u32; 32],
     grid: &[[u16; 24]; 32],

@@ -19,6 +19,11 @@ abbrev μ-loop : tie.MeasureT-loop
 loop-holds : tie.Need-loop-holds Inv-loop μ-loop
 loop-holds c = (filled-none _ _ _ _ (is-grid (c .args .grid) _ (c .good .0) .shape), search needs)
 
+loop-again : tie.Need-loop-again Inv-loop μ-loop
+loop-again c =
+    let b = c .before .before .before in
+    (filled-more _ _ _ _ (b .loop .w) (b .loop .filled) (b .loop .inv .0) _ (c .fill-window .ensures), search needs)
+
 fill-window-requires : tie.Need-fill-window-requires Inv-loop μ-loop
 fill-window-requires c κs =
     let b = c .before .before in
@@ -26,11 +31,6 @@ fill-window-requires c κs =
     let w = b .loop .w in
     let feasible = next-feasible (a .seats) (a .caps .now) (a .t3) (a .grid) w (b .loop .filled) (b .loop .inv .0) in
     (search needs, (b .loop .inv .0 .shape, feasible (b .before .pre .1 w (search needs))))
-
-loop-again : tie.Need-loop-again Inv-loop μ-loop
-loop-again c =
-    let b = c .before .before .before in
-    (filled-more _ _ _ _ (b .loop .w) (b .loop .filled) (b .loop .inv .0) _ (c .fill-window .ensures), search needs)
 
 returns : tie.Need-returns Inv-loop μ-loop
 returns c =
