@@ -9,8 +9,7 @@ use lib.ListN.{length, getD, set, length-set, replicate}
 use lib.Seq.{getD-set-same, getD-set-other}
 use Rattle.fairness.specs.Classes.{ClassWeight, weightOf}
 use Rattle.model.specs.Book.{Book, Grid, cell, seats, windows, instanceOf}
-use Rattle.dayfile.specs.Bounds.{Fit}
-use Rattle.dayfile.specs.Memory.{sized, Holds, held}
+use Rattle.dayfile.specs.Memory.{Holds, held}
 use Rattle.dayfile.specs.declared.Book as Memory
 use Rattle.dayfile.proofs.Tables.{sized-at, sized-row}
 use Rattle.terms.specs.declared.Terms.{Terms}

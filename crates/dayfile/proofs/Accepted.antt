@@ -1,21 +1,20 @@
 -- The book and the sheet of a file that no line turns away are within paper 01's bounds; so is a book that the writer's lines take.
 -- Assumes nothing.
-use mathlib.Core.Bool.{Bool, true}
-use mathlib.Core.List.{List, _∷_, _++_}
+use mathlib.Core.List.{List, _∷_}
 use mathlib.Core.Option.{Option, none, some}
-use mathlib.Core.Path.{_≡_, refl, sym, _∙_, ap, ap₂, subst}
-use Prim.Native.Nat.{ℕ, _+_, _*_, _/_, _%_, _≤_, _<_}
+use mathlib.Core.Path.{_≡_, refl, sym, _∙_, ap, ap₂}
+use Prim.Native.Nat.{ℕ, _+_, _*_, _<_}
 use native.Mathlib.Nat.{mul-le-mul-right}
 use native.Mathlib.Omega.{arith}
 use lib.ListN.{length, getD}
-use Rattle.model.specs.Lowest.{lowest, andThen}
-use Rattle.model.specs.Book.{Book, Grid, Shaped, SheetOf, cell, seats, windows}
+use Rattle.model.specs.Lowest.{andThen}
+use Rattle.model.specs.Book.{Book, Grid, Shaped, cell, seats, windows}
 use Rattle.dayfile.specs.Bounds.{Fit, SheetFit, TwoByte}
-use Rattle.dayfile.specs.Layout.{Bytes, field, start, size, seatsIn, windowsIn, sizeAt, entryOf, fieldsAt, gridAt, bookOf, sheetOf}
+use Rattle.dayfile.specs.Layout.{Bytes, field, start, size, seatsIn, windowsIn, sizeAt, entryOf, gridAt, bookOf, sheetOf}
 use Rattle.dayfile.specs.File.{Part, part, flat, optParts, partsOf, assemble, fileOf}
-use Rattle.dayfile.specs.Table.{firstOf, within, line7, line8, line10, line11, line12, valueLines, optionLines, bufferLines, writeLines}
+use Rattle.dayfile.specs.Table.{firstOf, line7, line8, line10, line11, line12, valueLines, writeLines}
 use Rattle.dayfile.proofs.Tests.{low-as, high-as}
-use Rattle.dayfile.proofs.Lines.{none-holds, none-parts}
+use Rattle.dayfile.proofs.Lines.{none-holds}
 use Rattle.dayfile.proofs.Fields.{field-small, fields-length, fields-at, grid-shaped, grid-cell}
 use Rattle.dayfile.proofs.Grids.{flat-length, flat-at}
 use Rattle.dayfile.proofs.Container.{nth, size-is, body-is}

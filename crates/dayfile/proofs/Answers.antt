@@ -2,17 +2,27 @@
 -- Assumes nothing.
 use mathlib.Core.List.{List}
 use mathlib.Core.Option.{Option, none, some}
-use mathlib.Core.Path.{_≡_, sym, _∙_, ap, subst}
+use mathlib.Core.Path.{_≡_, refl, sym, _∙_, ap, subst}
 use Prim.Native.Nat.{ℕ, _<_}
+use native.Mathlib.Omega.{arith}
 use lib.ListN.{length}
 use Rattle.dayfile.specs.Table.{Line, Refusal, refuse, firstOf}
-use Rattle.dayfile.specs.Outcome.{answer, unless}
+use Rattle.dayfile.specs.Outcome.{turnedAway, answer, unless}
 use Rattle.dayfile.specs.Memory.{found, Under, refused, front, after, Writes}
 use Rattle.dayfile.specs.declared.Found.{Found}
 use Rattle.dayfile.specs.declared.Found.the-variants.{At, Nothing}
 use Rattle.dayfile.specs.declared.Check.{Check}
 use Rattle.dayfile.specs.declared.Check.the-variants.{Refused, Sound}
 use Rattle.dayfile.specs.declared.Written as Written
+
+-- a refusal comes from a line that holds, and an answer means that none does
+pub away : {A : Type 0} (o : Option Refusal) (x : A) (q : Refusal) → unless o x ≡ turnedAway q → o ≡ some q
+away (some r) x q e = cc
+away none x q e = absurd (let z : _≡_ {A = ℕ} 0 1 = cc in omega arith)
+
+pub answered : {A : Type 0} (o : Option Refusal) (x y : A) → unless o x ≡ answer y → (o ≡ none) × (x ≡ y)
+answered none x y e = (refl, cc)
+answered (some q) x y e = absurd (let z : _≡_ {A = ℕ} 0 1 = cc in omega arith)
 
 -- a line holds at an offset, or nowhere
 pub at-line : {r : Found} {l : Option ℕ} {p : ℕ} → found r ≡ l → r ≡ At p → l ≡ some p

@@ -6,11 +6,12 @@ use Prim.Native.Nat.{ℕ, zero, suc, _+_, _*_, _/_, _%_, _<_}
 use native.Mathlib.Nat.{mod-add-div}
 use native.Mathlib.Omega.{arith}
 use lib.ListN.{length, getD}
-use Rattle.fairness.specs.Leximin.{table}
-use Rattle.model.specs.Book.{Grid, Shaped, cell}
+use Rattle.model.specs.Book.{Shaped, cell}
 use Rattle.dayfile.specs.Layout.{Bytes, field, fieldsAt, gridAt}
 use Rattle.dayfile.specs.File.{bytesOf, flat}
-use Rattle.dayfile.proofs.Tables.{table-length, table-at, table-run, run, run-length, run-same, run-append}
+use Rattle.fairness.proofs.Lists.{table-length}
+use Rattle.model.proofs.Grids.{table-at}
+use Rattle.dayfile.proofs.Tables.{table-run, run, run-same, run-append}
 
 -- ---- bytes that were written
 

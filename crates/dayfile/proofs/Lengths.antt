@@ -2,8 +2,8 @@
 -- Assumes nothing.
 use mathlib.Core.List.{List, [], _∷_, _++_}
 use mathlib.Core.Option.{Option, none, some}
-use mathlib.Core.Path.{_≡_, refl, sym, _∙_, ap, ap₂}
-use Prim.Native.Nat.{ℕ, zero, suc, _+_, _-_, _*_, _≤_, _<_, zero-le}
+use mathlib.Core.Path.{_≡_, refl, sym, _∙_, ap}
+use Prim.Native.Nat.{ℕ, zero, suc, _+_, _*_, _≤_, _<_}
 use native.Mathlib.Nat.{mul-le-mul-left, mul-le-mul-right}
 use native.Mathlib.Omega.{arith}
 use lib.ListN.{length, getD, length-append}
@@ -14,7 +14,9 @@ use Rattle.dayfile.specs.Layout.{Bytes, contentsEnd}
 use Rattle.dayfile.specs.File.{Part, part, contents, bodies, fieldsOf, flat, flatIf, optPart, optParts, partsOf, assemble, fileOf}
 use Rattle.dayfile.specs.Table.{plannedLength}
 use Rattle.dayfile.specs.Memory.{sizedGrid}
-use Rattle.dayfile.proofs.Tables.{table-length, table-at, sized-at, sized-row, sized-shaped}
+use Rattle.fairness.proofs.Lists.{table-length}
+use Rattle.model.proofs.Grids.{table-at}
+use Rattle.dayfile.proofs.Tables.{sized-at, sized-row, sized-shaped}
 use Rattle.dayfile.proofs.Fields.{bytes-small}
 use Rattle.dayfile.proofs.Grids.{flat-length, flat-cell}
 use Rattle.dayfile.proofs.Container.{file-size}

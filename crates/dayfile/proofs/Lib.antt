@@ -16,3 +16,4 @@ pub mod Accepted
 pub mod Lengths
 pub mod Held
 pub mod Theorems
+pub mod Examples

@@ -3,7 +3,7 @@
 use mathlib.Core.List.{List, [], _∷_, _++_}
 use mathlib.Core.Option.{Option, none, some}
 use mathlib.Core.Path.{_≡_, refl, sym, _∙_, ap, ap₂}
-use Prim.Native.Nat.{ℕ}
+use Prim.Native.Nat.{ℕ, _+_}
 use native.Mathlib.Omega.{arith}
 use Rattle.dayfile.specs.Table.{Line, Refusal, line, refuse, orRefuse, firstOf}
 use Rattle.dayfile.specs.Outcome.{NoneHolds, FirstHolds}
@@ -15,6 +15,12 @@ stop n next e = ap (λ (o : Option ℕ). orRefuse n o next) (sym e)
 -- this line does not, so the next decides
 pub on : (n : ℕ) {l : Option ℕ} {next r : Option Refusal} → l ≡ none → r ≡ next → r ≡ orRefuse n l next
 on n {l} {next} e q = q ∙ ap (λ (o : Option ℕ). orRefuse n o next) (sym e)
+
+-- three lines, as their checks found them
+pub three-as : (n : ℕ) {r : Option Refusal} {a b c x y z : Option ℕ}
+    → r ≡ firstOf (line n a ∷ line (n + 1) b ∷ line (n + 2) c ∷ []) → a ≡ x → b ≡ y → c ≡ z
+    → r ≡ firstOf (line n x ∷ line (n + 1) y ∷ line (n + 2) z ∷ [])
+three-as n e p q s = e ∙ rw (p, q, s)
 
 stop-line : (n : ℕ) (o : Option ℕ) (a b : Option Refusal) (q : Refusal)
     → (a ≡ some q → b ≡ some q) → orRefuse n o a ≡ some q → orRefuse n o b ≡ some q

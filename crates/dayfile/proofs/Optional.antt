@@ -1,18 +1,16 @@
 -- The parts that may be missing: one step for each kind, whatever the others are. Their kinds rise, and where a kind's entry lies in the
 -- file of some parts.
 -- Assumes nothing.
-use mathlib.Core.Bool.{Bool, true, false}
 use mathlib.Core.List.{List, [], _∷_, _++_}
 use mathlib.Core.Option.{Option, none, some}
-use mathlib.Core.Path.{_≡_, refl, sym, _∙_, ap, subst}
-use Prim.Native.Nat.{ℕ, zero, suc, _+_, _*_, _≤_, _<_}
+use mathlib.Core.Path.{_≡_, sym, _∙_, ap, subst}
+use Prim.Native.Nat.{ℕ, zero, suc, _+_, _≤_, _<_}
 use native.Mathlib.Nat.{not-suc-le-zero, le-of-suc-le-suc}
 use native.Mathlib.Omega.{arith}
 use lib.ListN.{length}
-use Rattle.model.specs.Lowest.{getOr}
 use Rattle.dayfile.specs.Layout.{entriesIn, count, kind, entryOf}
-use Rattle.dayfile.specs.File.{Part, part, optPart, bodies, assemble}
-use Rattle.dayfile.specs.Table.{within, known}
+use Rattle.dayfile.specs.File.{Part, part, optPart, assemble}
+use Rattle.dayfile.specs.Table.{known}
 use Rattle.dayfile.proofs.Container.{nth, count-is, kind-is}
 use Rattle.dayfile.proofs.Sound.{InOrder}
 use Rattle.dayfile.proofs.Rising.{Split, hit, split-hit, miss, split-miss}

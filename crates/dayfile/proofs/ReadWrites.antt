@@ -1,24 +1,23 @@
 -- A file that no line turns away, written again, has the same bytes.
 -- Assumes nothing.
-use mathlib.Core.Bool.{Bool, true, false, cond}
+use mathlib.Core.Bool.{Bool, cond}
 use mathlib.Core.List.{List, [], _∷_, _++_}
 use mathlib.Core.Option.{Option, none, some}
 use mathlib.Core.Path.{_≡_, refl, sym, _∙_, ap, ap₂}
-use Prim.Native.Nat.{ℕ, zero, suc, _+_, _-_, _*_, _/_, _%_, _≤_, _<_}
+use Prim.Native.Nat.{ℕ, zero, suc, _+_, _-_, _*_, _/_, _≤_, _<_}
 use native.Mathlib.Decide.{decLt, ℕ-discrete}
 use native.Mathlib.Omega.{arith}
 use lib.Dec.{eqb}
-use lib.ListN.{length, getD}
+use lib.ListN.{length}
 use borrow.Author.Tests.{ne-eqb, eqb-true}
-use Rattle.model.specs.Lowest.{lowest, andThen}
-use Rattle.model.specs.Book.{Grid}
+use Rattle.model.specs.Lowest.{andThen}
+use Rattle.model.proofs.Lowest.{lowest-some}
 use Rattle.dayfile.specs.Layout.{Bytes, field, count, contentsEnd, kind, start, size, ends, seatsIn, windowsIn, entryOf}
 use Rattle.dayfile.specs.Layout.{fieldsAt, gridAt, bookOf, sheetOf}
 use Rattle.dayfile.specs.File.{bytesOf, Part, part, contents, bodies, fieldsOf, assemble, flat, optPart, optParts, flatIf}
 use Rattle.dayfile.specs.File.{partsOf, fileOf}
 use Rattle.dayfile.specs.Table.{within, known}
 use Rattle.dayfile.proofs.Tests.{is-within}
-use Rattle.dayfile.proofs.Search.{Lowest, lowest-some}
 use Rattle.dayfile.proofs.Tables.{run, run-length, run-same, run-append}
 use Rattle.dayfile.proofs.Fields.{bytes-fields, fields-run, fields-length, flat-grid}
 use Rattle.dayfile.proofs.Sound.{Sound}
@@ -212,8 +211,8 @@ module _ (f : List ℕ) (s : Sound f) where
   unfolding entryOf
   sheet-body none e = refl
   sheet-body (some k) e =
-      let g = lowest-some (λ j. eqb (kind f j) 4) (count f) k e in
-      let z = s .grids k (g .inside) (ap (within 3 4) (eqb-true (kind f k) 4 (g .passes))) in
+      let g = lowest-some (count f) (λ j. eqb (kind f j) 4) k e in
+      let z = s .grids k (g .below) (ap (within 3 4) (eqb-true (kind f k) 4 (g .passes))) in
       ap some (flat-grid f (start f k) (seatsIn f) (windowsIn f)
       ∙ ap (fieldsAt f (start f k)) {x = seatsIn f * windowsIn f} {y = size f k / 2} (omega arith))
 

@@ -1,10 +1,10 @@
 -- The kinds of a file's entries rise, so the entry of a kind is found by going up once: at each kind either the next entry has it, or
 -- no entry has.
 -- Assumes nothing.
-use mathlib.Core.Bool.{Bool, true, false, cond}
+use mathlib.Core.Bool.{Bool, true, cond}
 use mathlib.Core.List.{List}
 use mathlib.Core.Logic.{⊎-elim}
-use mathlib.Core.Option.{Option, none, some}
+use mathlib.Core.Option.{none, some}
 use mathlib.Core.Path.{_≡_, refl, sym, _∙_, ap}
 use Prim.Native.Nat.{ℕ, zero, suc, _+_, _-_, _≤_, _<_}
 use native.Mathlib.Nat.{le-of-suc-le-suc, eq-or-lt-of-le}
@@ -12,10 +12,11 @@ use native.Mathlib.Decide.{decLt}
 use native.Mathlib.Omega.{arith}
 use lib.Dec.{eqb}
 use borrow.Author.Tests.{eq-eqb, ne-eqb, eqb-true, le-ltb}
+use Rattle.model.proofs.Lowest.{lowest-fails}
 use Rattle.dayfile.specs.Layout.{count, kind, entryOf}
 use Rattle.dayfile.specs.Table.{within, known, kindRight}
 use Rattle.dayfile.proofs.Tests.{within-low, within-high}
-use Rattle.dayfile.proofs.Search.{found-here, none-all}
+use Rattle.dayfile.proofs.Search.{found-here}
 use Rattle.dayfile.proofs.Sound.{InOrder}
 
 module _ (f : List ℕ) (o : InOrder f) where
@@ -87,7 +88,7 @@ module _ (f : List ℕ) (o : InOrder f) where
   unfolding entryOf
   hit e lo s l q =
       let has : ℕ → Bool = λ j. eqb (kind f j) lo in
-      let clear = none-all has e (λ j h. ne-eqb (kind f j) lo (λ p. let b = s .below j h in omega arith)) in
+      let clear = lowest-fails e has (λ j h. ne-eqb (kind f j) lo (λ p. let b = s .below j h in omega arith)) in
       sym (found-here has {i = e} {n = count f} clear (eq-eqb (kind f e) lo q) l refl)
 
   pub split-hit : (e lo : ℕ) → Split e lo → e < count f → kind f e ≡ lo → Split (suc e) (suc lo)
@@ -104,7 +105,7 @@ module _ (f : List ℕ) (o : InOrder f) where
   -- or no entry has
   pub miss : (e lo : ℕ) → Split e lo → (e < count f → kind f e ≡ lo → ⊥) → entryOf f lo ≡ none
   unfolding entryOf
-  miss e lo s n = none-all (λ j. eqb (kind f j) lo) (count f) (λ j h. ne-eqb (kind f j) lo (λ p. no-such j h p))
+  miss e lo s n = lowest-fails (count f) (λ j. eqb (kind f j) lo) (λ j h. ne-eqb (kind f j) lo (λ p. no-such j h p))
     where
       at-or-after : (j : ℕ) → j < count f → kind f j ≡ lo → e ≤ j → ⊥
       at-or-after j h p l =

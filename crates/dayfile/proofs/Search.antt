@@ -1,16 +1,15 @@
--- The search for the lowest number that passes a test: a loop that has found none yet, the end of it, and what its answer tells.
+-- Loops that search for the lowest number that passes a test, and what the offset of the answer tells.
 -- Assumes nothing.
-use mathlib.Core.Bool.{Bool, true, false, not}
-use mathlib.Core.Logic.{⊎-elim}
+use mathlib.Core.Bool.{Bool, true, false}
+use mathlib.Core.List.{List}
 use mathlib.Core.Option.{Option, none, some}
-use mathlib.Core.Path.{_≡_, refl, sym, _∙_, ap}
-use Prim.Native.Nat.{ℕ, zero, suc, _+_, _-_, _≤_, _<_}
-use native.Mathlib.Nat.{le-of-suc-le-suc, not-suc-le-zero, eq-or-lt-of-le}
+use mathlib.Core.Path.{_≡_, refl, sym, _∙_, ap, ap₂}
+use Prim.Native.Nat.{ℕ, zero, suc, _+_, _*_, _≤_, _<_, zero-le}
 use native.Mathlib.Numerals.{add-one}
 use native.Mathlib.Omega.{arith}
-use Rattle.model.specs.Lowest.{when, orElse, lowest}
-use Rattle.dayfile.specs.Table.{offset}
-use Rattle.dayfile.proofs.Tests.{when-none}
+use Rattle.model.specs.Lowest.{lowest}
+use Rattle.model.proofs.Lowest.{lowest-is, lowest-none}
+use Rattle.dayfile.specs.Table.{offset, outside}
 
 -- ---- a search in progress
 
@@ -26,52 +25,75 @@ module _ (bad : ℕ → Bool) where
   pub none-more : {i : ℕ} → lowest i bad ≡ none → bad i ≡ false → lowest (i + 1) bad ≡ none
   none-more {i} h p = ap (λ (n : ℕ). lowest n bad) (add-one i) ∙ none-next i h p
 
-  hit-now : (i : ℕ) → lowest i bad ≡ none → bad i ≡ true → lowest (suc i) bad ≡ some i
-  unfolding lowest
-  hit-now i h p = rw (h, p)
-
-  stays : (n i : ℕ) → lowest n bad ≡ some i → lowest (suc n) bad ≡ some i
-  unfolding lowest
-  stays n i h = rw h
-
-  hit : (d i : ℕ) → lowest i bad ≡ none → bad i ≡ true → lowest (suc (d + i)) bad ≡ some i
-  hit zero i h p = ap (λ (n : ℕ). lowest n bad) {x = suc (zero + i)} {y = suc i} (omega arith) ∙ hit-now i h p
-  hit (suc d) i h p =
-      ap (λ (n : ℕ). lowest n bad) {x = suc (suc d + i)} {y = suc (suc (d + i))} (omega arith)
-      ∙ stays (suc (d + i)) i (hit d i h p)
-
   pub found-here : {i n m : ℕ} → lowest i bad ≡ none → bad i ≡ true → i < n → n ≡ m → some i ≡ lowest m bad
   found-here {i} {n} {m} h p l q =
-      sym (ap (λ (k : ℕ). lowest k bad) {x = m} {y = suc ((m - suc i) + i)} (omega arith) ∙ hit (m - suc i) i h p)
+      sym (lowest-is m bad i (record { below = omega arith; passes = p; least = lowest-none i bad h }))
 
   pub none-here : {i n m : ℕ} → lowest i bad ≡ none → i ≤ n → n ≤ i → n ≡ m → none ≡ lowest m bad
   none-here {i} {n} {m} h l g q = sym (ap (λ (k : ℕ). lowest k bad) {x = m} {y = i} (omega arith) ∙ h)
 
--- the same, where the code's test t is that a place is right
+-- ---- the loop that searches n places, of m in all: `while i < n { if bad(i) { return i; } i += 1; }`
 
-module _ (right : ℕ → Bool) where
-  abbrev pub wrong : ℕ → Bool
-  wrong k = not (right k)
+-- none of the places before i is bad
+pub record Searching (bad : ℕ → Bool) (m n i : ℕ) : Type 0 where
+  pub inside : i ≤ n
+  pub whole : n ≡ m
+  pub clear : lowest i bad ≡ none
 
-  pub none-yet : none ≡ lowest 0 wrong
-  none-yet = none-first wrong
+module _ {bad : ℕ → Bool} {m n : ℕ} where
+  pub search-first : n ≡ m → Searching bad m n 0
+  search-first e = record { inside = zero-le; whole = e; clear = sym (none-first bad) }
 
-  pub passed : {i : ℕ} {t : Bool} → lowest i wrong ≡ none → t ≡ right i → t ≡ true → lowest (i + 1) wrong ≡ none
-  passed h e p = none-more wrong h (ap not (sym e ∙ p))
+  pub search-on : {i : ℕ} → Searching bad m n i → i < n → bad i ≡ false → Searching bad m n (i + 1)
+  search-on s l p = record { inside = omega arith; whole = s .whole; clear = none-more bad (s .clear) p }
 
-  pub found-at : (at : ℕ → ℕ) {i n m : ℕ} {t : Bool}
-      → lowest i wrong ≡ none → t ≡ right i → t ≡ false → i < n → n ≡ m → some (at i) ≡ offset at (lowest m wrong)
-  found-at at h e p l q = ap (offset at) (found-here wrong h (ap not (sym e ∙ p)) l q)
+  pub search-hit : {i : ℕ} → Searching bad m n i → i < n → bad i ≡ true → some i ≡ lowest m bad
+  search-hit s l p = found-here bad (s .clear) p l (s .whole)
 
-  pub none-at : (at : ℕ → ℕ) {i n m : ℕ}
-      → lowest i wrong ≡ none → i ≤ n → n ≤ i → n ≡ m → none ≡ offset at (lowest m wrong)
-  none-at at h l g q = ap (offset at) (none-here wrong h l g q)
+  pub search-end : {i : ℕ} → Searching bad m n i → n ≤ i → none ≡ lowest m bad
+  search-end s l = none-here bad (s .clear) (s .inside) l (s .whole)
+
+-- the same loop by the offsets of the places, two bytes each, from `at` on: `while p + 1 < end { if bad(p) { return p; } p += 2; }`
+pub record Walking (bad : ℕ → Bool) (at n end p : ℕ) : Type 0 where
+  pub place : ℕ
+  pub here : p ≡ at + 2 * place
+  pub ends : end ≡ at + 2 * n
+  pub search : Searching (λ i. bad (at + 2 * i)) n n place
+
+module _ {bad : ℕ → Bool} {at n end : ℕ} where
+  pub walk-first : end ≡ at + 2 * n → Walking bad at n end at
+  walk-first e = record { place = 0; here = omega arith; ends = e; search = search-first refl }
+
+  pub walk-on : {p : ℕ} → Walking bad at n end p → p + 1 < end → bad p ≡ false → Walking bad at n end (p + 2)
+  walk-on w l b =
+      let h = w .here in
+      let e = w .ends in
+      record {
+        place = w .place + 1;
+        here = omega arith;
+        ends = e;
+        search = search-on (w .search) (omega arith) (ap bad (sym h) ∙ b);
+      }
+
+  pub walk-hit : {p : ℕ} → Walking bad at n end p → p + 1 < end → bad p ≡ true
+      → some p ≡ offset (λ i. at + 2 * i) (lowest n (λ i. bad (at + 2 * i)))
+  walk-hit w l b =
+      let h = w .here in
+      let e = w .ends in
+      ap some h ∙ ap (offset (λ i. at + 2 * i)) (search-hit (w .search) (omega arith) (ap bad (sym h) ∙ b))
+
+  pub walk-end : {p : ℕ} → Walking bad at n end p → end ≤ p + 1
+      → none ≡ offset (λ i. at + 2 * i) (lowest n (λ i. bad (at + 2 * i)))
+  walk-end w l =
+      let h = w .here in
+      let e = w .ends in ap (offset (λ i. at + 2 * i)) (search-end (w .search) (omega arith))
+
+-- the fields of a body, where its start and their number are told
+pub outside-as : (f : List ℕ) (low high : ℕ) {r : Option ℕ} {a b n m : ℕ}
+    → r ≡ outside f a n low high → a ≡ b → n ≡ m → r ≡ outside f b m low high
+outside-as f low high h p q = h ∙ ap₂ (λ (a n : ℕ). outside f a n low high) p q
 
 -- ---- what the answer tells
-
-pub or-none : (o q : Option ℕ) → orElse o q ≡ none → (o ≡ none) × (q ≡ none)
-or-none none q e = (refl, e)
-or-none (some p) q e = let z : _≡_ {A = ℕ} 0 1 = cc in absurd (omega arith)
 
 pub offset-none : (at : ℕ → ℕ) (o : Option ℕ) → offset at o ≡ none → o ≡ none
 offset-none at none e = refl
@@ -80,48 +102,6 @@ offset-none at (some p) e = let z : _≡_ {A = ℕ} 0 1 = cc in absurd (omega ar
 pub offset-some : (at : ℕ → ℕ) (o : Option ℕ) (p : ℕ) → offset at o ≡ some p → (i : ℕ) × (o ≡ some i) × (p ≡ at i)
 offset-some at none p h = let z : _≡_ {A = ℕ} 0 1 = cc in absurd (omega arith)
 offset-some at (some i) p h = (i, refl, cc)
-
--- nothing found: no place passes
-pub lowest-none : (bad : ℕ → Bool) (n : ℕ) → lowest n bad ≡ none → (i : ℕ) → i < n → bad i ≡ false
-unfolding lowest
-lowest-none bad zero e i h = absurd (not-suc-le-zero h)
-lowest-none bad (suc n) e i h =
-    let p = or-none (lowest n bad) (when (bad n) n) e in
-    ⊎-elim (λ q. ap bad q ∙ when-none (bad n) n (p .1)) (λ l. lowest-none bad n (p .0) i l)
-    (eq-or-lt-of-le (le-of-suc-le-suc h))
-
--- a place found: it passes, and none below it does
-pub record Lowest (bad : ℕ → Bool) (n i : ℕ) : Type 0 where
-  pub inside : i < n
-  pub passes : bad i ≡ true
-  pub clear : lowest i bad ≡ none
-
-or-some : (bad : ℕ → Bool) (n i : ℕ) (o : Option ℕ) (b : Bool) → lowest n bad ≡ o → bad n ≡ b
-    → ((j : ℕ) → lowest n bad ≡ some j → Lowest bad n j) → orElse o (when b n) ≡ some i → Lowest bad (suc n) i
-or-some bad n i (some j) b e p k h =
-    let q : j ≡ i = cc in
-    let r = k i (e ∙ ap some q) in
-    let l = r .inside in record { inside = omega arith; passes = r .passes; clear = r .clear }
-or-some bad n i none true e p k h =
-    let q : n ≡ i = cc in
-    record {
-      inside = omega arith;
-      passes = ap bad (sym q) ∙ p;
-      clear = ap (λ (m : ℕ). lowest m bad) (sym q) ∙ e;
-    }
-or-some bad n i none false e p k h = let z : _≡_ {A = ℕ} 0 1 = cc in absurd (omega arith)
-
-pub lowest-some : (bad : ℕ → Bool) (n i : ℕ) → lowest n bad ≡ some i → Lowest bad n i
-unfolding lowest
-lowest-some bad zero i h = let z : _≡_ {A = ℕ} 0 1 = cc in absurd (omega arith)
-lowest-some bad (suc n) i h = or-some bad n i (lowest n bad) (bad n) refl refl (lowest-some bad n) h
-
--- no place passes: nothing found
-pub none-all : (bad : ℕ → Bool) (n : ℕ) → ((i : ℕ) → i < n → bad i ≡ false) → lowest n bad ≡ none
-none-all bad zero h = sym (none-first bad)
-none-all bad (suc n) h =
-    ap (λ (k : ℕ). lowest k bad) (sym (add-one n))
-    ∙ none-more bad (none-all bad n (λ i p. h i (omega arith))) (h n (omega arith))
 
 -- two tests that agree find the same
 pub same-search : (bad worse : ℕ → Bool) (n : ℕ) → ((i : ℕ) → i < n → bad i ≡ worse i) → lowest n bad ≡ lowest n worse

@@ -2,21 +2,23 @@
 -- Assumes nothing.
 use mathlib.Core.Bool.{Bool, true, false, not, cond}
 use mathlib.Core.List.{List, _++_}
-use mathlib.Core.Option.{Option, none, some}
-use mathlib.Core.Path.{_≡_, refl, sym, _∙_}
-use Prim.Native.Nat.{ℕ, _+_, _*_, _/_, _%_, _≤_, _<_}
+use mathlib.Core.Option.{none}
+use mathlib.Core.Path.{_≡_}
+use Prim.Native.Nat.{ℕ, _+_, _*_, _%_, _≤_, _<_}
 use native.Mathlib.Omega.{arith}
-use lib.Dec.{eqb, ltb}
+use lib.Dec.{eqb}
 use lib.ListN.{length}
 use borrow.Author.Tests.{eqb-true, ltb-false, not-false}
 use Rattle.model.specs.Lowest.{when, lowest}
+use Rattle.model.proofs.Lowest.{lowest-none}
+use Rattle.model.proofs.Tests.{and-true}
 use Rattle.dayfile.specs.Layout.{field, count, contentsEnd, kind, start, size, ends, seatsIn, windowsIn, kindAt, startAt, sizeAt}
-use Rattle.dayfile.specs.Table.{Line, firstOf, within, offset, known, kindRight, sizeRight, gridRight, outside}
+use Rattle.dayfile.specs.Table.{firstOf, within, offset, known, kindRight, sizeRight, gridRight, outside}
 use Rattle.dayfile.specs.Table.{line1, line2, line3, line4, line5, line6, line7, line8, line9, line10, line11, line12}
 use Rattle.dayfile.specs.Table.{contentsLines, lengthLines, valueLines, optionLines, readLines}
-use Rattle.dayfile.proofs.Tests.{both-true, within-low, within-high, when-none}
-use Rattle.dayfile.proofs.Search.{lowest-none, offset-none}
-use Rattle.dayfile.proofs.Lines.{on-after, none-holds, none-parts}
+use Rattle.dayfile.proofs.Tests.{within-low, within-high, when-none}
+use Rattle.dayfile.proofs.Search.{offset-none}
+use Rattle.dayfile.proofs.Lines.{none-holds, none-parts}
 
 -- the kinds of the entries are right
 pub record InOrder (f : List ℕ) : Type 0 where
@@ -55,7 +57,7 @@ pub all-right : (at : ℕ → ℕ) (right : ℕ → Bool) (n : ℕ) → offset a
     → (i : ℕ) → i < n → right i ≡ true
 all-right at right n e i h =
     let wrong : ℕ → Bool = λ k. not (right k) in
-    not-false (right i) (lowest-none wrong n (offset-none at (lowest n wrong) e) i h)
+    not-false (right i) (lowest-none n wrong (offset-none at (lowest n wrong) e) i h)
 
 pub none-outside : (f : List ℕ) (at n low high : ℕ) → outside f at n low high ≡ none → FieldsWithin f at n low high
 unfolding outside
@@ -73,7 +75,7 @@ pub record Even (low high n : ℕ) : Type 0 where
 pub even-size : (low high n p : ℕ) → when (not (sizeRight low high n)) p ≡ none → Even low high n
 unfolding sizeRight
 even-size low high n p e =
-    let b = both-true (within low high n) (eqb (n % 2) 0) (kept (sizeRight low high n) p e) in
+    let b = and-true (within low high n) (eqb (n % 2) 0) .0 (kept (sizeRight low high n) p e) in
     record {
       least = within-low low high n (b .0);
       most = within-high low high n (b .0);

@@ -2,8 +2,8 @@
 -- Assumes nothing.
 use mathlib.Core.List.{List, [], _∷_, _++_}
 use mathlib.Core.Path.{_≡_, refl, sym, _∙_, ap, ap₂}
-use Prim.Native.Nat.{ℕ, zero, suc, _+_, _-_, _≤_, _<_}
-use native.Mathlib.Nat.{add-zero, not-suc-le-zero, le-of-suc-le-suc}
+use Prim.Native.Nat.{ℕ, zero, suc, _+_, _≤_, _<_}
+use native.Mathlib.Nat.{add-zero}
 use native.Mathlib.Numerals.{add-one}
 use native.Mathlib.Decide.{decLt, ℕ-discrete}
 use native.Mathlib.Omega.{arith}
@@ -11,29 +11,13 @@ use lib.ListN.{length, take, getD, set, replicate, length-set, List·getD-eq-def
 use lib.Seq.{ext-getD, getD-set-same, getD-set-other, getD-take, length-take-le}
 use Rattle.fairness.specs.Leximin.{table}
 use Rattle.model.specs.Book.{Grid, Shaped}
+use Rattle.fairness.proofs.Lists.{table-length}
+use Rattle.model.proofs.Grids.{table-at, table-same}
 use Rattle.dayfile.specs.Memory.{sized, sizedGrid}
 
 module _ {A : Type 0} where
-  pub table-length : (n : ℕ) (g : ℕ → A) → length (table n g) ≡ n
-  unfolding table
-  table-length zero g = refl
-  table-length (suc n) g = ap suc (table-length n (λ i. g (suc i)))
-
-  pub table-at : (n : ℕ) (g : ℕ → A) (i : ℕ) (d : A) → i < n → getD (table n g) i d ≡ g i
-  unfolding table
-  table-at zero g i d h = absurd (not-suc-le-zero h)
-  table-at (suc n) g zero d h = refl
-  table-at (suc n) g (suc i) d h = table-at n (λ k. g (suc k)) i d (le-of-suc-le-suc h)
-
   pub table-out : (n : ℕ) (g : ℕ → A) (i : ℕ) (d : A) → n ≤ i → getD (table n g) i d ≡ d
   table-out n g i d h = List·getD-eq-default (table n g) d (let e = table-length n g in omega arith)
-
-  pub table-same : (n : ℕ) (g h : ℕ → A) → ((i : ℕ) → i < n → g i ≡ h i) → table n g ≡ table n h
-  unfolding table
-  table-same zero g h e = refl
-  table-same (suc n) g h e =
-      ap₂ (λ (x : A) (xs : List A). x ∷ xs) (e 0 (omega arith))
-      (table-same n (λ i. g (suc i)) (λ i. h (suc i)) (λ i p. e (suc i) (omega arith)))
 
   table-snoc : (n : ℕ) (g : ℕ → A) → table (suc n) g ≡ table n g ++ (g n ∷ [])
   unfolding table

@@ -4,20 +4,21 @@ use mathlib.Core.Bool.{Bool}
 use mathlib.Core.List.{List}
 use mathlib.Core.Logic.{_↔_}
 use mathlib.Core.Option.{Option, none, some}
-use mathlib.Core.Path.{_≡_, refl, sym, _∙_, ap, ap₂, subst}
+use mathlib.Core.Path.{_≡_, sym, _∙_, ap, ap₂, subst}
 use Prim.Native.Nat.{ℕ, _≤_}
 use native.Mathlib.Omega.{arith}
 use lib.ListN.{length}
 use Rattle.model.specs.Lowest.{isSome}
-use Rattle.model.specs.Book.{Book, Grid, Shaped, SheetOf, seats, windows}
+use Rattle.model.specs.Book.{Book, Grid}
 use Rattle.dayfile.specs.Bounds.{Fit, SheetFit, TwoByte}
 use Rattle.dayfile.specs.Layout.{Bytes, bookOf, sheetOf}
 use Rattle.dayfile.specs.File.{fileOf}
-use Rattle.dayfile.specs.Table.{Refusal, firstOf, readLines, writeLines, plannedLength}
-use Rattle.dayfile.specs.Outcome.{Outcome, turnedAway, answer, unless, readFile, NoneHolds, FirstHolds}
+use Rattle.dayfile.specs.Table.{Refusal, firstOf, readLines, writeLines}
+use Rattle.dayfile.specs.Outcome.{turnedAway, answer, unless, readFile, NoneHolds, FirstHolds}
 use Rattle.dayfile.specs.Memory.{Holds, held, heldIf, bookIn, sheetIn, fileIn, refused, reading}
 use Rattle.dayfile.specs.declared.Book as Memory
 use Rattle.dayfile.specs.declared.Check as Check
+use Rattle.dayfile.proofs.Answers.{away, answered}
 use Rattle.dayfile.proofs.Lines.{none-holds, none-first-of, first-holds, holds-first}
 use Rattle.dayfile.proofs.Sound.{sound}
 use Rattle.dayfile.proofs.WrittenReads.{written-free, written-book, written-sheet}
@@ -27,21 +28,11 @@ use Rattle.dayfile.proofs.Lengths.{file-short, file-bytes}
 use Rattle.dayfile.proofs.Lengths.{longBook, longSheet, long-fits, long-sheet-fits, long-two-byte, long-length}
 use Rattle.dayfile.proofs.Held.{held-book, held-sheet, book-shaped, sheet-shaped}
 
--- what an outcome tells of the lines
-module _ {A : Type 0} (x : A) where
-  away : (o : Option Refusal) (q : Refusal) → unless o x ≡ turnedAway q → o ≡ some q
-  away (some r) q e = cc
-  away none q e = let z : _≡_ {A = ℕ} 0 1 = cc in absurd (omega arith)
-
-  given : (o : Option Refusal) (y : A) → unless o x ≡ answer y → (o ≡ none) × (x ≡ y)
-  given none y e = (refl, cc)
-  given (some r) y e = let z : _≡_ {A = ℕ} 0 1 = cc in absurd (omega arith)
-
 -- a file is refused exactly when a line of the table holds, with the number and the offset of the first such line
 pub refused-exactly : (f : List ℕ) (q : Refusal) → readFile f ≡ turnedAway q ↔ FirstHolds (readLines f) q
 unfolding readFile
 refused-exactly f q = (
-  (λ e. first-holds (readLines f) q (away (bookOf f, sheetOf f) (firstOf (readLines f)) q e)),
+  (λ e. first-holds (readLines f) q (away (firstOf (readLines f)) (bookOf f, sheetOf f) q e)),
   (λ h. ap (λ (o : Option Refusal). unless o (bookOf f, sheetOf f)) (holds-first (readLines f) q h)),
 )
 
@@ -49,7 +40,7 @@ refused-exactly f q = (
 pub accepted-exactly : (f : List ℕ) → readFile f ≡ answer (bookOf f, sheetOf f) ↔ NoneHolds (readLines f)
 unfolding readFile
 accepted-exactly f = (
-  (λ e. none-holds (readLines f) (given (bookOf f, sheetOf f) (firstOf (readLines f)) (bookOf f, sheetOf f) e .0)),
+  (λ e. none-holds (readLines f) (answered (firstOf (readLines f)) (bookOf f, sheetOf f) (bookOf f, sheetOf f) e .0)),
   (λ h. ap (λ (o : Option Refusal). unless o (bookOf f, sheetOf f)) (none-first-of (readLines f) h)),
 )
 
@@ -59,7 +50,7 @@ pub accepted-fits : (f : List ℕ) (b : Book) (s : Option Grid) → readFile f �
     → Fit b × SheetFit b s × (Bytes f → TwoByte b s)
 unfolding readFile
 accepted-fits f b s e =
-    let g = given (bookOf f, sheetOf f) (firstOf (readLines f)) (b, s) e in
+    let g = answered (firstOf (readLines f)) (bookOf f, sheetOf f) (b, s) e in
     subst (λ (p : Book × Option Grid). Fit (p .0) × SheetFit (p .0) (p .1) × (Bytes f → TwoByte (p .0) (p .1))) (g .1)
     (fits f (sound f (g .0)), sheet-fits f, sheet-two-byte f)
 
@@ -78,7 +69,7 @@ written-bytes = file-bytes
 pub read-writes-back : (f : List ℕ) (b : Book) (s : Option Grid) → Bytes f → readFile f ≡ answer (b, s) → fileOf b s ≡ f
 unfolding readFile
 read-writes-back f b s by e =
-    let g = given (bookOf f, sheetOf f) (firstOf (readLines f)) (b, s) e in
+    let g = answered (firstOf (readLines f)) (bookOf f, sheetOf f) (b, s) e in
     ap (λ (p : Book × Option Grid). fileOf (p .0) (p .1)) (sym (g .1)) ∙ written-again f (sound f (g .0)) by
 
 -- the longest file has 3,210 bytes: no accepted file has more, and one has as many

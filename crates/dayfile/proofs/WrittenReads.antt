@@ -1,32 +1,32 @@
 -- A book and a sheet that fit, written and read, are the same: no line of the table turns the file away.
 -- Assumes nothing.
 use mathlib.Core.Bool.{Bool, true, false, not, cond, _&&_}
-use mathlib.Core.List.{List, [], _∷_, _++_}
+use mathlib.Core.List.{List, [], _∷_}
 use mathlib.Core.Option.{Option, none, some}
 use mathlib.Core.Path.{_≡_, refl, sym, _∙_, ap, ap₂}
-use Prim.Native.Nat.{ℕ, zero, suc, _+_, _-_, _*_, _/_, _%_, _≤_, _<_, zero-le}
+use Prim.Native.Nat.{ℕ, zero, suc, _+_, _-_, _*_, _%_, _≤_, _<_, zero-le}
 use native.Mathlib.Omega.{arith}
 use lib.Dec.{eqb}
 use lib.ListN.{length, getD}
 use borrow.Author.Tests.{eq-eqb, le-ltb}
-use Rattle.model.specs.Lowest.{when, andThen, lowest}
+use Rattle.model.specs.Lowest.{lowest, when, andThen}
 use Rattle.model.specs.Book.{Book, Grid, Shaped, seats, windows}
+use Rattle.model.proofs.Lowest.{lowest-fails}
 use Rattle.dayfile.specs.Bounds.{Fit, SheetFit}
 use Rattle.dayfile.specs.Layout.{field, count, contentsEnd, kind, start, size, ends, seatsIn, windowsIn, kindAt, startAt, sizeAt}
 use Rattle.dayfile.specs.Layout.{entryOf, fieldsAt, gridAt, bookOf, sheetOf}
-use Rattle.dayfile.specs.File.{Part, part, partsOf, optPart, flatIf, optParts, flat, assemble, fileOf}
+use Rattle.dayfile.specs.File.{Part, part, partsOf, flatIf, optParts, flat, assemble, fileOf}
 use Rattle.dayfile.specs.Table.{firstOf, within, offset, known, kindRight, sizeRight, gridRight, outside}
 use Rattle.dayfile.specs.Table.{line1, line2, line3, line4, line5, line6, line7, line8, line9, line10, line11, line12}
 use Rattle.dayfile.specs.Table.{contentsLines, lengthLines, valueLines, optionLines, readLines}
 use Rattle.dayfile.proofs.Tests.{is-within, cond-no}
-use Rattle.dayfile.proofs.Search.{none-all}
 use Rattle.dayfile.proofs.Fields.{fields-at}
 use Rattle.dayfile.proofs.Grids.{flat-length, flat-cell, grid-there}
 use Rattle.dayfile.proofs.Container.{nth, before-all, file-size, count-is, kind-is, start-is, size-is, ends-is, body-is}
 use Rattle.dayfile.proofs.Sound.{InOrder}
 use Rattle.dayfile.proofs.Rising.{split-first}
 use Rattle.dayfile.proofs.Optional.{Above, above-opt, above-next, Each, each-nth, each-opt, IfThere, few-opt}
-use Rattle.dayfile.proofs.Optional.{Tail, BodyAt, Looked, look}
+use Rattle.dayfile.proofs.Optional.{BodyAt, Looked, look}
 
 -- each number of a list is low to high
 abbrev pub AllWithin : ℕ → ℕ → List ℕ → Type 0
@@ -40,7 +40,7 @@ outside-none f at n low high xs e q h =
     let here : (i : ℕ) → i < n → field f (at + 2 * i) ≡ getD xs i 0 =
     λ i p. sym (fields-at f at (length xs) i (omega arith)) ∙ ap (λ (ys : List ℕ). getD ys i 0) q in
     ap (offset (λ i. at + 2 * i))
-    (none-all (λ i. not (within low high (field f (at + 2 * i)))) n
+    (lowest-fails n (λ i. not (within low high (field f (at + 2 * i))))
     (λ i p. ap (λ (x : ℕ). not (within low high x)) (here i p) ∙ ap not (h i (omega arith))))
 
 -- kinds 3 and 4 have grids of n numbers
@@ -152,19 +152,19 @@ module _ (b : Book) (o : Option Grid) (fit : Fit b) (sheet : SheetFit b o) where
   kind-right-f (suc (suc zero)) h = eq-eqb (kind f 2) 3 (kind-f 2 h)
   kind-right-f (suc (suc (suc e))) h = kind-after e h
 
+  -- a test that each entry passes
+  none-at : (at : ℕ → ℕ) (right : ℕ → Bool) → ((e : ℕ) → e < length ps → right e ≡ true)
+      → offset at (lowest (count f) (λ e. not (right e))) ≡ none
+  none-at at right h =
+      let c = count-f in ap (offset at) (lowest-fails (count f) (λ e. not (right e)) (λ e l. ap not (h e (omega arith))))
+
   at4 : line4 f ≡ none
   unfolding line4
-  at4 =
-      let c = count-f in
-      ap (offset kindAt) (none-all (λ e. not (kindRight f e)) (count f) (λ e h. ap not (kind-right-f e (omega arith))))
+  at4 = none-at kindAt (kindRight f) kind-right-f
 
   at5 : line5 f ≡ none
   unfolding line5
-  at5 =
-      let c = count-f in
-      ap (offset startAt)
-      (none-all (λ e. not (eqb (start f e) (ends f e))) (count f)
-      (λ e h. ap not (eq-eqb (start f e) (ends f e) (start-f e (omega arith)))))
+  at5 = none-at startAt (λ e. eqb (start f e) (ends f e)) (λ e h. eq-eqb (start f e) (ends f e) (start-f e h))
 
   at6 : line6 f ≡ none
   unfolding line6
@@ -215,9 +215,7 @@ module _ (b : Book) (o : Option Grid) (fit : Fit b) (sheet : SheetFit b o) where
 
   at9 : line9 f ≡ none
   unfolding line9
-  at9 =
-      let c = count-f in
-      ap (offset sizeAt) (none-all (λ e. not (gridRight f e)) (count f) (λ e h. ap not (grid-right-f e (omega arith))))
+  at9 = none-at sizeAt (gridRight f) grid-right-f
 
   -- ---- values
 
@@ -273,24 +271,22 @@ module _ (b : Book) (o : Option Grid) (fit : Fit b) (sheet : SheetFit b o) where
       look (length ps) ps refl order-f 3 4 (flatIf o) [] (split-first f order-f)
       (record { long = omega arith; same = λ i. ap (nth ps) {x = 3 + i} {y = suc (suc (suc i))} (omega arith) }) tt
 
--- a grid of a kind that may be missing
-grid-at : (b : Book) (o : Option Grid) (fit : Fit b) (sheet : SheetFit b o) (r : Option ℕ) (g : Option Grid) → SheetFit b g
-    → BodyAt (length (ps b o fit sheet)) (ps b o fit sheet) refl (order-f b o fit sheet) r (flatIf g)
-    → andThen r (λ e. some (gridAt (f b o fit sheet) (start (f b o fit sheet) e) (seatsIn (f b o fit sheet)) (windowsIn (f b o fit sheet)))) ≡ g
-grid-at b o fit sheet none none p h = refl
-grid-at b o fit sheet none (some g) p h = absurd h
-grid-at b o fit sheet (some e) none p h = absurd h
-grid-at b o fit sheet (some e) (some g) p h = ap some (grid-f b o fit sheet e g (h .0) (h .1) p)
+  -- a grid of a kind that may be missing
+  grid-at : (r : Option ℕ) (g : Option Grid) → SheetFit b g → BodyAt (length ps) ps refl order-f r (flatIf g)
+      → andThen r (λ e. some (gridAt f (start f e) (seatsIn f) (windowsIn f))) ≡ g
+  grid-at none none p h = refl
+  grid-at none (some g) p h = absurd h
+  grid-at (some e) none p h = absurd h
+  grid-at (some e) (some g) p h = ap some (grid-f e g (h .0) (h .1) p)
 
-module _ (b : Book) (o : Option Grid) (fit : Fit b) (sheet : SheetFit b o) where
   pub written-free : firstOf (readLines (fileOf b o)) ≡ none
   unfolding fileOf partsOf
-  written-free = no-line b o fit sheet
+  written-free = no-line
 
   pub written-book : bookOf (fileOf b o) ≡ b
   unfolding fileOf partsOf
-  written-book = book-is b o fit sheet
+  written-book = book-is
 
   pub written-sheet : sheetOf (fileOf b o) ≡ o
   unfolding fileOf partsOf sheetOf
-  written-sheet = grid-at b o fit sheet (entryOf (f b o fit sheet) 4) o sheet (sheet-look b o fit sheet .body)
+  written-sheet = grid-at (entryOf f 4) o sheet (sheet-look .body)

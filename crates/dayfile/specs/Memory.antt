@@ -7,8 +7,8 @@ use mathlib.Core.Path.{_≡_}
 use Prim.Native.Nat.{ℕ, _<_}
 use lib.ListN.{length, getD, drop}
 use Rattle.fairness.specs.Leximin.{table}
-use Rattle.model.specs.Lowest.{getOr, isSome}
-use Rattle.model.specs.Book.{Book, Grid, cell, seats, windows}
+use Rattle.model.specs.Lowest.{getOr}
+use Rattle.model.specs.Book.{Book, Grid, seats, windows}
 use Rattle.dayfile.specs.File.{fileOf}
 use Rattle.dayfile.specs.Table.{Line, Refusal, refuse}
 use Rattle.dayfile.specs.Outcome.{Outcome, turnedAway, answer, outcome}

@@ -1,6 +1,12 @@
-// The day file: the types that reading and writing share. The format is defined in specs/, its laws are in proofs/Theorems.antt.
+// The day file: the types and the tests that reading and writing share. The format is defined in specs/, and its laws are in
+// proofs/Theorems.antt.
 ghost use mathlib.Core.Path.{_≡_};
-ghost use Rattle.dayfile.specs.Table.{within};
+ghost use mathlib.Core.Bool.{not};
+ghost use mathlib.Core.List.{[], _∷_};
+ghost use Prim.Native.Nat.{_+_, _<_};
+ghost use Rattle.model.specs.Lowest.{when};
+ghost use Rattle.dayfile.specs.Table.{within, line, firstOf};
+ghost use Rattle.dayfile.specs.Memory.{found, refused};
 
 // The last kind that is known.
 pub const KNOWN: usize = 4;
@@ -37,4 +43,39 @@ pub fn within(low: usize, high: usize, x: usize) -> bool
     ensures { λ r. ⌜ r ≡ within low high x ⌝ }
 {
     low <= x && x <= high
+}
+
+// An offset, where a number is not low to high.
+pub fn outside_at(low: usize, high: usize, x: usize, at: usize) -> Found
+    ensures { λ r. ⌜ found r ≡ when (not (within low high x)) at ⌝ }
+{
+    if within(low, high, x) {
+        Found::Nothing
+    } else {
+        Found::At(at)
+    }
+}
+
+// The refusal of the first of three lines that holds; they are numbered from `number` on. A line of the table stands alone, so all three
+// can be looked up first.
+pub fn first_of(number: u8, a: Found, b: Found, c: Found) -> Check
+    requires { ⌜ number < 100 ⌝ }
+    ensures { λ r. ⌜ refused r ≡ firstOf (line number (found a) ∷ line (number + 1) (found b) ∷ line (number + 2) (found c) ∷ []) ⌝ }
+{
+    if let Found::At(p) = a {
+        return Check::Refused { number, at: p };
+    }
+    if let Found::At(p) = b {
+        return Check::Refused {
+            number: number + 1,
+            at: p,
+        };
+    }
+    if let Found::At(p) = c {
+        return Check::Refused {
+            number: number + 2,
+            at: p,
+        };
+    }
+    Check::Sound
 }

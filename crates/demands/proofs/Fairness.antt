@@ -16,12 +16,12 @@ use Rattle.dayfile.specs.declared.Written.the-variants.{Whole}
 use Rattle.dayfile.specs.Layout.{bookOf}
 use Rattle.dayfile.specs.Table.{firstOf, markLines, planLines, plannedLength}
 use Rattle.dayfile.specs.Outcome.{answer, NoneHolds}
+use Rattle.dayfile.proofs.Answers.{answered}
 use Rattle.dayfile.proofs.Lines.{none-holds}
 use Rattle.marker.specs.declared.Marking.{Marking}
 use Rattle.marker.specs.declared.Marking.the-variants.{Refused, Improvable, Tied, Settled}
 use Rattle.marker.specs.declared.Marking.the-variants as variants
 use Rattle.marker.specs.Marking.{sheetIn, told, Passing, Marks}
-use Rattle.marker.proofs.Accepted.{answered}
 use Rattle.marker.proofs.Taken.{book-is, sheet-in, none-hold}
 use Rattle.marker.proofs.Theorems as marker
 use Rattle.planner.specs.Planning.{planFile, Plans}

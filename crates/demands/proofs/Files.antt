@@ -15,12 +15,12 @@ use Rattle.dayfile.specs.Outcome.{answer, unless, readFile, NoneHolds}
 use Rattle.dayfile.specs.Memory.{bookIn, sheetIn, fileIn, front, written, after}
 use Rattle.dayfile.specs.declared.Written.{Written}
 use Rattle.dayfile.specs.declared.Written.the-variants.{Refused, Whole}
+use Rattle.dayfile.proofs.Answers.{answered}
 use Rattle.dayfile.proofs.Lines.{none-first-of, none-holds, none-parts, on-after}
 use Rattle.dayfile.proofs.Sound.{sound}
 use Rattle.dayfile.proofs.Accepted.{fits, sheet-fits}
 use Rattle.dayfile.proofs.Held.{held-book, held-sheet}
 use Rattle.dayfile.proofs.Theorems.{accepted-exactly, read-writes-back, memory-reads-back}
-use Rattle.marker.proofs.Accepted.{answered}
 use Rattle.demands.specs.Demands.{Answers, Reads, WritesFrom, fileFrom}
 
 -- the front of a buffer

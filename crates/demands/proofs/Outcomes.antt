@@ -11,6 +11,7 @@ use Rattle.dayfile.specs.Layout.{bookOf}
 use Rattle.dayfile.specs.Table.{Line, Refusal, firstOf, readLines, markLines, planLines, bufferLines, writeLines, plannedLength}
 use Rattle.dayfile.specs.Outcome.{Outcome, turnedAway, unless, outcome, readFile}
 use Rattle.dayfile.specs.Memory.{written, after}
+use Rattle.dayfile.proofs.Answers.{away}
 use Rattle.dayfile.proofs.Lines.{none-first-of, first-holds, holds-first}
 use Rattle.dayfile.proofs.Theorems.{reader-says}
 use Rattle.listing.specs.Listing.{listingMax}
@@ -18,11 +19,6 @@ use Rattle.marker.specs.Marking.{sheetIn, markFile, results}
 use Rattle.planner.specs.Planning.{planFile}
 use Rattle.report.specs.Report.{textOf, Listed, ListedUnless}
 use Rattle.demands.specs.Demands.{fileFrom, Defined, Demand1}
-
--- a refusal comes from a line
-away : {A : Type 0} (o : Option Refusal) (x : A) (q : Refusal) → unless o x ≡ turnedAway q → o ≡ some q
-away (some r) x q e = cc
-away none x q e = absurd (let z : _≡_ {A = ℕ} 0 1 = cc in omega arith)
 
 -- a call that answers by the lines
 defined : {A : Type 0} (lines : List Line) (before after : List ℕ) (o : Outcome A) (Right : A → Type 0) (x : A) → o ≡ outcome lines x →

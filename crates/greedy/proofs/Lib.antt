@@ -1,6 +1,2 @@
--- Laws that several proofs cite.
-pub mod Columns
-pub mod Shifts
-pub mod Filling
-pub mod Products
+-- Laws that the proofs cite.
 pub mod Starting

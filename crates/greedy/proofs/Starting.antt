@@ -1,42 +1,33 @@
--- A filled grid is feasible and not wasteful in every instance of the book.
+-- The sheet of zeros, and what it is once it is filled.
 use mathlib.Core.Path.{_≡_, ap, sym, _∙_}
 use mathlib.Core.List.{List}
-use Prim.Native.Nat.{ℕ, min, _≤_, _<_}
+use Prim.Native.Nat.{ℕ}
 use native.Mathlib.Omega.{arith}
-use lib.ListN.{getD}
-use Rattle.fairness.specs.Sums.{sum}
-use Rattle.fairness.specs.Instance.{Instance, Feasible, Wasteful, placed}
-use Rattle.fairness.proofs.Sums.{sum-lt}
+use Rattle.fairness.proofs.Sums.{sum-none}
 use Rattle.model.specs.Book.{Grid, cell}
-use Rattle.greedy.specs.Starts.{Has, Started, Filled}
+use Rattle.sheet.specs.declared.Sheet.{Sheet}
+use Rattle.sheet.specs.Sheets.{credit, gridOf}
+use Rattle.sheet.proofs.Cells.{credit-cell}
+use Rattle.fill.specs.Fills.{FeasibleAt, Filled}
+use Rattle.fill.proofs.Feasible.{is-full}
+use Rattle.greedy.specs.Starts.{Started}
 
-module _ (n m : ℕ) (caps : Grid) (supplies : List ℕ) (g : Grid) (f : Filled n m caps supplies g) where
-  module _ (I : Instance) (h : Has n m caps supplies I) where
-    -- a window's cells together, in the instance's words
-    together : (j : ℕ) → j < m → placed I (cell g) j ≡ min (getD supplies j 0) (sum n (λ i. cell caps i j))
-    together j l = ap (λ (k : ℕ). sum k (λ i. cell g i j)) (h .seats) ∙ f .placed j l
+module _
+    (n : ℕ) (caps : Grid) (sheet : Sheet) (zero : (i j : ℕ) → credit sheet i j ≡ 0) (g : Grid) (e : g ≡ gridOf sheet)
+  where
+    cell-zero : (i j : ℕ) → cell g i j ≡ 0
+    cell-zero i j = ap (λ (x : Grid). cell x i j) e ∙ sym (credit-cell sheet i j) ∙ zero i j
 
-    feasible : Feasible I (cell g)
-    feasible = record {
-      within = λ i j a b.
-          let p : i < n = omega (arith, h .seats) in
-          let q : j < m = omega (arith, h .windows) in
-          omega (arith, f .within i j p q, h .cap i j p q);
-      fits = λ j b.
-          let q : j < m = omega (arith, h .windows) in
-          omega (arith, together j q, h .supply j q);
+    pub zeros-feasible : (j supply : ℕ) → FeasibleAt n j caps supply g
+    zeros-feasible j supply = record {
+      within = λ i l. omega (arith, cell-zero i j);
+      fits = omega (arith, sum-none n (λ i. cell g i j) (λ i l. cell-zero i j));
     }
 
-    -- a seat below its cap has the window's cells together below its caps together, so the supply is handed out
-    full : Wasteful I (cell g) → ⊥
-    full w =
-        let p : w .seat < n = omega (arith, h .seats, w .in-seat) in
-        let q : w .window < m = omega (arith, h .windows, w .in-window) in
-        let below : cell g (w .seat) (w .window) < cell caps (w .seat) (w .window) = omega (arith, w .room, h .cap (w .seat) (w .window) p q) in
-        let less =
-        sum-lt n (λ i. cell g i (w .window)) (λ i. cell caps i (w .window)) (w .seat) (λ i a. f .within i (w .window) a q) p below
-        in
-        omega (arith, f .placed (w .window) q, together (w .window) q, h .supply (w .window) q, w .left, less)
-
-  pub started : Started n m caps supplies g
-  started = record { feasible = feasible; full = full; past-seats = f .past-seats; past-windows = f .past-windows }
+    pub started : (m : ℕ) (supplies : List ℕ) (r : Grid) → Filled n m caps supplies g r → Started n m caps supplies r
+    started m supplies r f = record {
+      feasible = λ I h. is-full n m caps supplies r (f .full) I h .feasible;
+      full = λ I h. is-full n m caps supplies r (f .full) I h .unwasted;
+      past-seats = λ i j l. f .past-seats i j l ∙ cell-zero i j;
+      past-windows = λ i j l. f .past-windows i j l ∙ cell-zero i j;
+    }

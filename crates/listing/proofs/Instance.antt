@@ -1,15 +1,15 @@
 -- Numbers in memory that are those of a book, a sheet and moves give the listing of these.
 use mathlib.Core.Path.{_≡_, refl, sym, ap₂, _∙_}
-use mathlib.Core.List.{List, [], _∷_, _++_}
+use mathlib.Core.List.{List, _++_}
 use Prim.Native.Nat.{ℕ, zero, suc, _+_, _*_, _<_}
 use native.Mathlib.Omega.{arith}
 use lib.ListN.{length, getD, List·getD-append}
 use Rattle.fairness.specs.Instance.{placed, total}
-use Rattle.fairness.specs.Leximin.{table}
 use Rattle.fairness.specs.Exchange.{Move}
 use Rattle.model.specs.Book.{Book, Grid, cell, seats, windows, instanceOf, totals}
 use Rattle.model.specs.Marks.{Result, moveBytes}
 use Rattle.model.proofs.Moves.{move-bytes-length}
+use Rattle.model.proofs.Grids.{table-at}
 use Rattle.listing.specs.Listing.{
   windowLine,
   seatLine,
@@ -64,12 +64,6 @@ listing-same n m mark window seat count hc hs hp ht hv = rw (windows-same m hs h
 
 -- ---- a book in memory
 
-table-at : (n : ℕ) (f : ℕ → ℕ) (i : ℕ) → i < n → getD (table n f) i 0 ≡ f i
-unfolding table
-table-at zero f i h = absurd (omega arith)
-table-at (suc n) f zero h = refl
-table-at (suc n) f (suc i) h = table-at n (λ k. f (suc k)) i (omega arith)
-
 -- the numbers are those of the book and the sheet, and the first moves those of the list
 pub record InMemory (b : Book) (s : Grid) (ms : List Move) (classes supplies given summed moves : List ℕ) (count : ℕ) : Type 0 where
   pub class : Agree (seats b) classes (b .classes)
@@ -84,8 +78,8 @@ pub listing-is : {b : Book} {s : Grid} {ms : List Move} {classes supplies given 
 unfolding listingOf totals
 listing-is {b} {s} r h =
     listing-same _ _ _ _ _ (r .moves) (h .class) (h .supply)
-    (record { entry = λ j l. h .window-placed j l ∙ sym (table-at _ _ j l) })
-    (record { entry = λ i l. h .seat-total i l ∙ sym (table-at _ _ i l) })
+    (record { entry = λ j l. h .window-placed j l ∙ sym (table-at _ _ j 0 l) })
+    (record { entry = λ i l. h .seat-total i l ∙ sym (table-at _ _ i 0 l) })
     (h .written)
 
 -- moves that stand at a buffer's front

@@ -1,8 +1,8 @@
 -- What the code's numbers, read from a file, say of the lines 14 and 15. Assumes nothing.
-use mathlib.Core.Path.{_≡_, refl, sym, _∙_, ap, ap₂}
+use mathlib.Core.Path.{_≡_, refl, _∙_}
 use mathlib.Core.Bool.{true, false}
 use mathlib.Core.List.{List}
-use mathlib.Core.Option.{Option, none, some}
+use mathlib.Core.Option.{none, some}
 use Prim.Native.Nat.{ℕ, _+_, _*_, _≤_, _<_}
 use native.Mathlib.Nat.{lt-trans}
 use native.Mathlib.Omega.{arith}
@@ -10,9 +10,8 @@ use lib.Dec.{ltb}
 use borrow.Author.Tests.{lt-ltb, le-ltb}
 use Rattle.fairness.specs.Sums.{sum}
 use Rattle.sheet.proofs.Sums.{Summed, next}
-use Rattle.model.specs.Lowest.{lowest, andThen}
 use Rattle.dayfile.specs.Layout.{field, start, seatsIn, windowsIn, entryOf}
-use Rattle.dayfile.specs.Table.{offset, cellAt, placedIn, line14, line15}
+use Rattle.dayfile.specs.Table.{cellAt, placedIn, line14, line15}
 use Rattle.refusals.proofs.Products.{small}
 use Rattle.markchecks.specs.Firsts.{firstAbove, firstOver}
 

@@ -17,17 +17,12 @@ use Rattle.model.specs.Lowest.{isSome, when}
 use Rattle.model.specs.Book.{Grid, SheetOf, Lawful, cell, seats, windows, instanceOf}
 use Rattle.model.proofs.Lowest.{lowest-none, lowest-fails}
 use Rattle.dayfile.specs.Layout.{field, start, seatsIn, windowsIn, entryOf, gridAt, bookOf, sheetOf}
-use Rattle.dayfile.specs.Table.{Refusal, offset, line13, line14, line15, cellAt, placedIn}
+use Rattle.dayfile.specs.Table.{offset, line13, line14, line15, cellAt, placedIn}
 use Rattle.dayfile.specs.Table.{markerLines}
-use Rattle.dayfile.specs.Outcome.{answer, unless, NoneHolds}
+use Rattle.dayfile.specs.Outcome.{NoneHolds}
 use Rattle.dayfile.proofs.Search.{offset-none}
 use Rattle.dayfile.proofs.Fields.{fields-length, fields-at, grid-cell, grid-shaped}
 use Rattle.marker.specs.Marking.{sheetIn}
-
--- an answer means that no line holds
-pub answered : {A : Type 0} (o : Option Refusal) (x y : A) → unless o x ≡ answer y → (o ≡ none) × (x ≡ y)
-answered none x y e = (refl, cc)
-answered (some q) x y e = absurd (let z : _≡_ {A = ℕ} 0 1 = cc in omega arith)
 
 -- what was found, if anything was
 some-of : {A : Type 0} (o : Option A) → when {A = ℕ} (not (isSome o)) 0 ≡ none → (x : A) × (o ≡ some x)

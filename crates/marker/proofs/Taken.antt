@@ -11,9 +11,10 @@ use Rattle.model.specs.Book.{Book, Grid, SheetOf, Lawful}
 use Rattle.dayfile.specs.Layout.{bookOf, sheetOf, entryOf, gridAt, start, seatsIn, windowsIn}
 use Rattle.dayfile.specs.Table.{firstOf, line13, line16, readLines, markerLines, bufferLines, markLines}
 use Rattle.dayfile.specs.Outcome.{answer, readFile, NoneHolds}
+use Rattle.dayfile.proofs.Answers.{answered}
 use Rattle.dayfile.proofs.Lines.{none-holds, none-first-of, on-after}
 use Rattle.marker.specs.Marking.{sheetIn}
-use Rattle.marker.proofs.Accepted.{answered, entry-sheet, lawful-lines}
+use Rattle.marker.proofs.Accepted.{entry-sheet, lawful-lines}
 
 -- a sheet stands in an entry of kind 4
 sheet-entry : (o : Option ℕ) (g : ℕ → Grid) (s : Grid) → andThen o (λ e. some (g e)) ≡ some s → (e : ℕ) × (o ≡ some e)

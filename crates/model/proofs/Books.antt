@@ -1,15 +1,14 @@
 -- The tests of a book's sheets mean what they say. Assumes nothing.
-use mathlib.Core.Path.{_≡_, refl, sym, ap, _∙_}
-use mathlib.Core.Bool.{Bool, true, false, not, _&&_, true≢false}
+use mathlib.Core.Path.{_≡_, refl, sym, ap}
+use mathlib.Core.Bool.{Bool, true, false, not, true≢false}
 use mathlib.Core.Option.{Option, none, some}
 use mathlib.Core.Logic.{_↔_}
-use mathlib.Core.List.{List, [], _∷_}
-use Prim.Native.Nat.{ℕ, _≤_, _<_}
-use native.Mathlib.Omega.{arith}
+use mathlib.Core.List.{[]}
+use Prim.Native.Nat.{ℕ}
 use lib.Dec.{eqb, ltb}
 use lib.ListN.{length, getD}
 use borrow.Author.Tests.{eqb-true, eq-eqb, ltb-false, le-ltb, not-true, not-false}
-use Rattle.fairness.specs.Instance.{Feasible, placed}
+use Rattle.fairness.specs.Instance.{placed}
 use Rattle.model.specs.Lowest.{lowest, isSome}
 use Rattle.model.specs.Book.{Book, Grid, cell, seats, windows, instanceOf, SheetOf, Lawful, isSheet, isLawful}
 use Rattle.model.proofs.Tests.{and-true}

@@ -1,23 +1,19 @@
 -- Grids and functions: every sheet of functions is that of a grid, on the cells that are used. Assumes nothing.
 use mathlib.Core.Path.{_≡_, refl, sym, ap, ap₂, _∙_}
 use mathlib.Core.List.{List, [], _∷_}
-use Prim.Native.Nat.{ℕ, zero, suc, _+_, _≤_, _<_}
+use Prim.Native.Nat.{ℕ, zero, suc, _+_, _<_}
 use native.Mathlib.Nat.{le-trans, le-of-eq}
 use native.Mathlib.Omega.{arith}
 use lib.ListN.{length, getD}
 use Rattle.fairness.specs.Instance.{Instance, Sheet, Feasible, placed, total, height}
 use Rattle.fairness.specs.Leximin.{table, sort, NoHigher, noHigher?, levels, profile}
 use Rattle.fairness.proofs.Sums.{sum-eq}
+use Rattle.fairness.proofs.Lists.{table-length}
 use Rattle.model.specs.Book.{Grid, cell, Shaped}
 
 -- ---- tables
 
 module _ {A : Type 0} where
-  pub table-length : (n : ℕ) (f : ℕ → A) → length (table n f) ≡ n
-  unfolding table
-  table-length zero f = refl
-  table-length (suc n) f = ap suc (table-length n (λ i. f (suc i)))
-
   pub table-at : (n : ℕ) (f : ℕ → A) (i : ℕ) (d : A) → i < n → getD (table n f) i d ≡ f i
   unfolding table
   table-at zero f i d l = absurd (omega arith)

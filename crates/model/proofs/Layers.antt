@@ -1,19 +1,16 @@
 -- The layers of the search hold exactly the seats that so many moves reach. Assumes nothing.
-use mathlib.Core.Path.{_≡_, refl, sym, ap, _∙_, subst}
-use mathlib.Core.Bool.{Bool, true, false, _&&_, _||_}
+use mathlib.Core.Path.{_≡_, refl, sym, subst}
+use mathlib.Core.Bool.{Bool, true, _&&_, _||_}
 use mathlib.Core.Logic.{_⊎_, inl, inr, _↔_}
-use mathlib.Core.List.{List, [], _∷_}
+use mathlib.Core.List.{List, []}
 use Prim.Native.Nat.{ℕ, zero, suc, _<_}
 use native.Mathlib.Omega.{arith}
 use lib.Dec.{ltb}
 use borrow.Author.Tests.{ltb-true, lt-ltb}
-use Rattle.fairness.specs.Instance.{Instance, Sheet}
-use Rattle.fairness.specs.Exchange.{Possible}
 use Rattle.fairness.specs.Layers.{Edge, Within}
 use Rattle.fairness.specs.Leximin.{table}
-use Rattle.model.specs.Lowest.{lowest, isSome}
 use Rattle.model.specs.Book.{Book, Grid, cell, seats, windows, instanceOf}
-use Rattle.model.specs.Search.{member, any, filter, canTake, grow, layer}
+use Rattle.model.specs.Search.{member, any, canTake, grow, layer}
 use Rattle.model.proofs.Tests.{and-true, or-true}
 use Rattle.model.proofs.Lowest.{isSome-lowest, isSome-Lowest}
 use Rattle.model.proofs.Sets.{In, in-nil, in-cons, in-any, in-filter, in-table}

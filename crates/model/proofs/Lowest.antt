@@ -2,11 +2,11 @@
 use mathlib.Core.Path.{_≡_, refl, sym, _∙_, ap}
 use mathlib.Core.Bool.{Bool, true, false}
 use mathlib.Core.Logic.{_⊎_, inl, inr}
-use mathlib.Core.Option.{Option, none, some}
+use mathlib.Core.Option.{none, some}
 use Prim.Native.Nat.{ℕ, zero, suc, _<_}
 use native.Mathlib.Decide.{ℕ-discrete}
 use native.Mathlib.Omega.{arith}
-use Rattle.model.specs.Lowest.{when, orElse, isSome, lowest}
+use Rattle.model.specs.Lowest.{when, isSome, lowest}
 
 -- k is below n and passes, and nothing below k does
 pub record Lowest (n : ℕ) (test : ℕ → Bool) (k : ℕ) : Type 0 where

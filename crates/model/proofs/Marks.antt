@@ -1,9 +1,9 @@
 -- The mark that is computed is the one that holds. Assumes nothing.
-use mathlib.Core.Path.{_≡_, refl, sym, ap, _∙_}
+use mathlib.Core.Path.{_≡_, refl, sym, _∙_}
 use mathlib.Core.Bool.{Bool, true, false, _&&_}
 use mathlib.Core.Logic.{_⊎_, inl, inr, _↔_}
-use mathlib.Core.Option.{Option, none, some}
-use Prim.Native.Nat.{ℕ, _≤_, _<_}
+use mathlib.Core.Option.{none, some}
+use Prim.Native.Nat.{ℕ, _-_, _≤_, _<_}
 use native.Mathlib.Nat.{lt-trans}
 use native.Mathlib.Decide.{decLt}
 use native.Mathlib.Omega.{arith}
@@ -13,11 +13,12 @@ use borrow.Author.Tests.{ltb-true, ltb-false, lt-ltb, le-ltb}
 use Rattle.fairness.specs.Instance.{Wasteful, placed}
 use Rattle.fairness.specs.Exchange.{improvesAt, tiesAt, Improvable, Tied}
 use Rattle.fairness.proofs.Theorems
-use Rattle.model.specs.Lowest.{lowest, isSome, orElse, andThen, getOr}
+use Rattle.model.specs.Lowest.{isSome}
 use Rattle.model.specs.Book.{Book, Grid, cell, seats, windows, instanceOf}
-use Rattle.model.specs.Search.{Found, Picked, search}
-use Rattle.model.specs.Marks.{Mark, wasteful, improvable, tied, settled, Wasted, Marked, seatBelow, wastedWindow, markOf}
-use Rattle.model.proofs.Tests.{and-true, or-true, not-true, true-not-false}
+use Rattle.model.specs.Search.{Found, Picked}
+use Rattle.model.specs.Marks.{Mark, wasteful, improvable, tied, settled, Wasted, Marked}
+use Rattle.model.specs.Marks.{seatBelow, wastedWindow, markOf, Result, resultOf}
+use Rattle.model.proofs.Tests.{and-true, not-true, true-not-false}
 use Rattle.model.proofs.Lowest.{Lowest, Fails, lowest-is, lowest-fails, lowest-cases, isSome-lowest, isSome-Lowest}
 use Rattle.model.proofs.Meaning.{search-cases, search-some, search-none}
 
@@ -165,3 +166,31 @@ module _ (b : Book) (s : Grid) where
     where
       to : markOf b s ≡ m → Marked b s m
       to e = let same : marked .0 ≡ m = sym (mark-is (marked .0) (marked .1)) ∙ e in rw same at (marked .1)
+
+  -- ---- how large a result's numbers are, which count from 1
+
+  -- a chain has fewer moves than there are seats
+  few-moves : (test : ℕ → ℕ → Bool) (f : Found) → Picked b s test f → f .moves < seats b
+  unfolding instanceOf
+  few-moves test f p =
+      let path = p .shortest in
+      let short = Theorems.path-length (instanceOf b) (cell s) (f .receiver) (f .donor) (path .moves) (p .seat) (path .path) in
+      omega (arith, short, path .count)
+
+  pub record Within (r : Result) : Type 0 where
+    pub window : r .window ≤ windows b
+    pub seat : r .seat ≤ seats b
+    pub moves : r .moves ≤ seats b - 1
+
+  within-marked : (m : Mark) → Marked b s m → Within (resultOf m)
+  within-marked (wasteful j i) w = record { window = omega (arith, w .window); seat = omega (arith, w .seat); moves = omega arith }
+  within-marked (improvable f) p =
+      let few = few-moves (improvesAt (instanceOf b) (cell s)) f (p .1) in
+      record { window = omega arith; seat = omega arith; moves = omega (arith, few) }
+  within-marked (tied f) p =
+      let few = few-moves (tiesAt (instanceOf b) (cell s)) f (p .2) in
+      record { window = omega arith; seat = omega arith; moves = omega (arith, few) }
+  within-marked settled p = record { window = omega arith; seat = omega arith; moves = omega arith }
+
+  pub within-book : Within (resultOf (markOf b s))
+  within-book = within-marked (markOf b s) (mark-means (markOf b s) .0 refl)

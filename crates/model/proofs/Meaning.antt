@@ -1,19 +1,18 @@
 -- What the search and the marks mean, in the terms of the crate `fairness`. Assumes nothing.
 use mathlib.Core.Path.{_≡_, refl, sym, ap, _∙_, subst}
-use mathlib.Core.Bool.{Bool, true, false, _&&_, _||_}
+use mathlib.Core.Bool.{Bool, true, false, _&&_}
 use mathlib.Core.Logic.{_⊎_, inl, inr, _↔_}
 use mathlib.Core.List.{List, [], _∷_}
-use mathlib.Core.Option.{Option, none, some}
-use Prim.Native.Nat.{ℕ, zero, suc, _≤_, _<_}
-use native.Mathlib.Nat.{le-refl}
+use mathlib.Core.Option.{none, some}
+use Prim.Native.Nat.{ℕ, _≤_, _<_}
 use native.Mathlib.Decide.{decLt}
 use native.Mathlib.Omega.{arith}
 use lib.ListN.{length}
-use Rattle.fairness.specs.Exchange.{Move, Path, Exchange}
+use Rattle.fairness.specs.Exchange.{Move, Exchange}
 use Rattle.fairness.specs.Layers.{Within}
 use Rattle.fairness.proofs.Theorems.{path-within, within-path, shortest, path-length, within-seats, within-more}
-use Rattle.model.specs.Lowest.{lowest, isSome, andThen}
-use Rattle.model.specs.Book.{Book, Grid, cell, seats, windows, instanceOf}
+use Rattle.model.specs.Lowest.{isSome}
+use Rattle.model.specs.Book.{Book, Grid, cell, seats, instanceOf}
 use Rattle.model.specs.Search.{Found, PathOn, Shortest, Picked, member, layer, reached, fewest, donorOf, firstReceiver, search}
 use Rattle.model.proofs.Tests.{and-true, not-true, true-not-false}
 use Rattle.model.proofs.Lowest.{Lowest, Fails, lowest-is, lowest-fails, lowest-some, lowest-cases, isSome-lowest, isSome-Lowest}

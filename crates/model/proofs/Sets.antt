@@ -1,6 +1,6 @@
 -- Sets of seats as lists: who is a member. Assumes nothing.
-use mathlib.Core.Path.{_≡_, refl, sym, ap, _∙_, subst}
-use mathlib.Core.Bool.{Bool, true, false, _&&_, _||_, true≢false}
+use mathlib.Core.Path.{_≡_, refl, sym, ap, _∙_}
+use mathlib.Core.Bool.{Bool, true, false, true≢false}
 use mathlib.Core.Logic.{_⊎_, inl, inr, _↔_}
 use mathlib.Core.List.{List, [], _∷_}
 use Prim.Native.Nat.{ℕ, zero, suc, _<_}
@@ -9,7 +9,7 @@ use lib.Dec.{eqb}
 use borrow.Author.Tests.{eqb-true, eq-eqb}
 use Rattle.fairness.specs.Leximin.{table}
 use Rattle.model.specs.Search.{member, any, consIf, filter}
-use Rattle.model.proofs.Tests.{and-true, or-true}
+use Rattle.model.proofs.Tests.{or-true}
 
 -- x is in the list
 abbrev pub In : ℕ → List ℕ → Type 0

@@ -1,14 +1,14 @@
 -- The rules of paper 01 and demand 3: a mark passes exactly where the sheet's list is the book's highest. Stated with the definitions
 -- of specs/ alone; the other files of this folder work towards them.
-use mathlib.Core.Path.{_≡_, refl, sym, ap, _∙_, subst}
-use mathlib.Core.Bool.{Bool, true, false, true≢false}
-use mathlib.Core.Logic.{_⊎_, inl, inr, _↔_}
-use mathlib.Core.List.{List, [], _∷_}
+use mathlib.Core.Path.{_≡_, refl, sym}
+use mathlib.Core.Bool.{true, false, true≢false}
+use mathlib.Core.Logic.{_⊎_, _↔_}
+use mathlib.Core.List.{List}
 use Prim.Native.Nat.{ℕ, _<_}
 use lib.ListN.{getD}
-use Rattle.fairness.specs.Instance.{Proper, Feasible, Wasteful, total}
+use Rattle.fairness.specs.Instance.{Proper, Feasible}
 use Rattle.fairness.specs.Leximin.{Level, NoHigher, Equal, Higher, profile, Highest}
-use Rattle.fairness.specs.Exchange.{Move, playAll, PlaysOut, Improvable, Settled, improvesAt}
+use Rattle.fairness.specs.Exchange.{Move, playAll, PlaysOut, Settled}
 use Rattle.fairness.proofs.Theorems as fairness
 use Rattle.fairness.proofs.Weights.{weight-bounds}
 use Rattle.model.specs.Book.{Book, Grid, SheetOf, Lawful, cell, seats, windows, instanceOf, totals}

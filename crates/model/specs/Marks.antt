@@ -1,7 +1,7 @@
 -- The mark of a sheet: the first that holds of wasteful (1), improvable (2), tied (3), settled (4). Tied and settled pass.
 use mathlib.Core.Bool.{Bool, true, false, _&&_}
 use mathlib.Core.List.{List, [], _∷_}
-use mathlib.Core.Option.{Option, none, some}
+use mathlib.Core.Option.{Option, some}
 use Prim.Native.Nat.{ℕ, _+_, _≤_, _<_}
 use lib.Dec.{ltb}
 use lib.ListN.{getD}

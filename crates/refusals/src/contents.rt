@@ -7,6 +7,8 @@ ghost use Rattle.dayfile.specs.Memory.{found, refused};
 use dayfile::Check;
 use dayfile::Found;
 use dayfile::KNOWN;
+use dayfile::first_of;
+use dayfile::outside_at;
 use dayfile::within;
 use fields::count;
 use fields::ends;
@@ -28,11 +30,7 @@ fn too_short(file: &[u8]) -> Found
 fn wrong_count(file: &[u8]) -> Found
     ensures { λ r. ⌜ found r ≡ line2 (now (file .entry)) ⌝ }
 {
-    if within(3, KNOWN, count(file)) {
-        Found::Nothing
-    } else {
-        Found::At(0)
-    }
+    outside_at(3, KNOWN, count(file), 0)
 }
 
 // Line 3: file ends within the contents.
@@ -103,32 +101,14 @@ fn wrong_end(file: &[u8]) -> Found
 fn check_header(file: &[u8]) -> Check
     ensures { λ r. ⌜ refused r ≡ firstOf (take 3 (contentsLines (now (file .entry)))) ⌝ }
 {
-    if let Found::At(p) = too_short(file) {
-        return Check::Refused { number: 1, at: p };
-    }
-    if let Found::At(p) = wrong_count(file) {
-        return Check::Refused { number: 2, at: p };
-    }
-    if let Found::At(p) = contents_cut(file) {
-        return Check::Refused { number: 3, at: p };
-    }
-    Check::Sound
+    first_of(1, too_short(file), wrong_count(file), contents_cut(file))
 }
 
 // Lines 4 to 6.
 fn check_entries(file: &[u8]) -> Check
     ensures { λ r. ⌜ refused r ≡ firstOf (drop 3 (contentsLines (now (file .entry)))) ⌝ }
 {
-    if let Found::At(p) = wrong_kind(file) {
-        return Check::Refused { number: 4, at: p };
-    }
-    if let Found::At(p) = wrong_start(file) {
-        return Check::Refused { number: 5, at: p };
-    }
-    if let Found::At(p) = wrong_end(file) {
-        return Check::Refused { number: 6, at: p };
-    }
-    Check::Sound
+    first_of(4, wrong_kind(file), wrong_start(file), wrong_end(file))
 }
 
 // Lines 1 to 6.

@@ -5,6 +5,7 @@ ghost use Rattle.dayfile.specs.Table.{sizeRight, gridRight, line7, line8, line9
 ghost use Rattle.dayfile.specs.Memory.{found, refused};
 use dayfile::Check;
 use dayfile::Found;
+use dayfile::first_of;
 use dayfile::within;
 use fields::count;
 use fields::kind;
@@ -72,14 +73,5 @@ fn wrong_grid(file: &[u8]) -> Found
 pub fn check_lengths(file: &[u8]) -> Check
     ensures { λ r. ⌜ refused r ≡ firstOf (lengthLines (now (file .entry))) ⌝ }
 {
-    if let Found::At(p) = wrong_seats(file) {
-        return Check::Refused { number: 7, at: p };
-    }
-    if let Found::At(p) = wrong_windows(file) {
-        return Check::Refused { number: 8, at: p };
-    }
-    if let Found::At(p) = wrong_grid(file) {
-        return Check::Refused { number: 9, at: p };
-    }
-    Check::Sound
+    first_of(7, wrong_seats(file), wrong_windows(file), wrong_grid(file))
 }

@@ -5,23 +5,25 @@ ghost use Rattle.dayfile.specs.Table.{outside, line10, line11, line12, firstOf,
 ghost use Rattle.dayfile.specs.Memory.{found, refused};
 use dayfile::Check;
 use dayfile::Found;
+use dayfile::first_of;
 use dayfile::within;
 use fields::field;
 use fields::seats;
 use fields::start;
 use fields::windows;
 
-// The first of n fields from an offset on that is not low to high.
+// The first of n fields from an offset on that is not low to high. Both bytes of a field lie before the end.
 fn outside(file: &[u8], at: usize, n: usize, low: usize, high: usize) -> Found
     requires { ⌜ (at < 65536) × (n < 2000000000) ⌝ }
     ensures { λ r. ⌜ found r ≡ outside (now (file .entry)) at n low high ⌝ }
 {
-    let mut i = 0;
-    while i < n {
-        if !within(low, high, field(file, at + 2 * i)) {
-            return Found::At(at + 2 * i);
+    let end = at + 2 * n;
+    let mut p = at;
+    while p + 1 < end {
+        if !within(low, high, field(file, p)) {
+            return Found::At(p);
         }
-        i += 1;
+        p += 2;
     }
     Found::Nothing
 }
@@ -51,14 +53,10 @@ fn cap_outside(file: &[u8]) -> Found
 pub fn check_values(file: &[u8]) -> Check
     ensures { λ r. ⌜ refused r ≡ firstOf (valueLines (now (file .entry))) ⌝ }
 {
-    if let Found::At(p) = class_outside(file) {
-        return Check::Refused { number: 10, at: p };
-    }
-    if let Found::At(p) = supply_outside(file) {
-        return Check::Refused { number: 11, at: p };
-    }
-    if let Found::At(p) = cap_outside(file) {
-        return Check::Refused { number: 12, at: p };
-    }
-    Check::Sound
+    first_of(
+        10,
+        class_outside(file),
+        supply_outside(file),
+        cap_outside(file),
+    )
 }

@@ -7,17 +7,16 @@ use native.Mathlib.Omega.{arith}
 use lib.ListN.{length, drop}
 use borrow.Author.Tests.{lt-ltb, le-ltb}
 use Rattle.fairness.specs.Exchange.{Move}
-use Rattle.fairness.proofs.Theorems.{path-length}
-use Rattle.model.specs.Book.{cell, seats, instanceOf}
 use Rattle.model.specs.Search.{Found}
 use Rattle.model.specs.Marks.{Mark, wasteful, improvable, tied, settled, Result, markOf, resultOf, moveBytes}
-use Rattle.model.proofs.Marks.{mark-means}
+use Rattle.model.proofs.Marks.{within-book}
 use Rattle.dayfile.specs.Bounds.{Fit}
 use Rattle.dayfile.specs.Layout.{bookOf}
 use Rattle.dayfile.specs.Table.{refuse, firstOf, line16, readLines, markerLines, bufferLines, markLines}
 use Rattle.dayfile.specs.Outcome.{Outcome, turnedAway, answer}
 use Rattle.dayfile.specs.Memory.{front}
 use Rattle.dayfile.specs.declared.Written as Written
+use Rattle.dayfile.proofs.Answers.{answered}
 use Rattle.dayfile.proofs.Lines.{none-parts}
 use Rattle.dayfile.proofs.Sound.{sound}
 use Rattle.dayfile.proofs.Accepted.{fits}
@@ -26,7 +25,6 @@ use Rattle.listing.proofs.Instance.{Agree, at-front}
 use Rattle.marker.specs.declared.Marking.{Marking}
 use Rattle.marker.specs.declared.Marking.the-variants.{Refused}
 use Rattle.marker.specs.Marking.{sheetIn, markFile, told, results, PathWritten, BufferAfter, Marks}
-use Rattle.marker.proofs.Accepted.{answered}
 use Rattle.report.specs.Report.{textOf, MovesOf, Listed, Lists}
 
 -- ---- the output buffer is long enough, or not
@@ -105,22 +103,11 @@ module _ (file moves written : List ℕ) (r : Marking) (room : length moves ≡ 
         let passed = none-parts (readLines file) (markerLines file ++ bufferLines 93 93) (lines-passed .0) .0 in
         fits file (sound file passed)
 
-    -- a path that was written has a move for each seat but the donor at most
-    path-few : (f : Found) → f .receiver < seats (bookOf file) → PathWritten (bookOf file) (sheetIn file) f moves written → f .moves ≤ 31
-    unfolding instanceOf
-    path-few f seat path =
-        let short = path-length (instanceOf (bookOf file)) (cell (sheetIn file)) (f .receiver) (f .donor) (path .moves) seat (path .path) in
-        omega (arith, short, path .count, fit .seats-high)
-
     pub few : x .moves ≤ 31
-    few = go (told-mark .mark) (told-mark .result) (lines-passed .1) (rw (told-mark .is) at kept)
-      where
-        go : (m : Mark) → x ≡ resultOf m → markOf (bookOf file) (sheetIn file) ≡ m →
-            BufferAfter (bookOf file) (sheetIn file) (answer m) moves written → x .moves ≤ 31
-        go (wasteful j i) e by after = rw e (omega arith)
-        go (improvable f) e by after = rw e (path-few f (mark-means _ _ (improvable f) .0 by .1 .seat) after)
-        go (tied f) e by after = rw e (path-few f (mark-means _ _ (tied f) .0 by .2 .seat) after)
-        go settled e by after = rw e (omega arith)
+    few =
+        let small = within-book (bookOf file) (sheetIn file) in
+        let result : x ≡ resultOf (markOf (bookOf file) (sheetIn file)) = told-mark .result ∙ ap resultOf (sym (lines-passed .1)) in
+        rw result (omega (arith, small .moves, fit .seats-high))
 
     module _ (before after : List ℕ) (n : ℕ) (printed : (ms : List Move) → Agree (x .moves * 3) written (moveBytes ms) →
         Printed before (listingOf (bookOf file) (sheetIn file) x ms) after n) where

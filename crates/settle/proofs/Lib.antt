@@ -1,4 +1,3 @@
 -- Towards settled sheets: free credits handed out, routes played, and a loop that ends.
-pub mod Fill
 pub mod Routes
 pub mod Turns

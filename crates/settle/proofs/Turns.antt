@@ -14,7 +14,7 @@ use Rattle.exchange.specs.Search.{movesOf, Answers}
 use Rattle.terms.specs.declared.Terms.{Terms}
 use Rattle.terms.specs.Terms.{instanceIn, Told, Small}
 use Rattle.terms.proofs.Told.{small-proper, told-settled}
-use Rattle.settle.specs.Fill.{Full}
+use Rattle.fill.specs.Fills.{Full}
 use Rattle.settle.specs.Routes.{AllPlayable}
 use Rattle.settle.specs.Offers.{Offers}
 use Rattle.settle.proofs.Routes.{all-playable}

@@ -1,4 +1,3 @@
 -- What the contracts of this crate cite.
-pub mod Fill
 pub mod Routes
 pub mod Offers

@@ -7,10 +7,10 @@ use native.Mathlib.Omega.{arith}
 use Rattle.fairness.specs.Sums.{keep}
 use Rattle.fairness.specs.Instance.{Instance}
 use Rattle.fairness.specs.Exchange.{Move, play, Possible}
-use Rattle.model.specs.Book.{Grid, cell, Shaped}
+use Rattle.model.specs.Book.{Shaped}
 use Rattle.sheet.specs.declared.Sheet.{Sheet}
-use Rattle.sheet.specs.Sheets.{credit, gridOf, Playable, Moved, Written}
-use Rattle.sheet.proofs.Cells.{written, written-is, written-shaped, putIn, put-is, put-shaped}
+use Rattle.sheet.specs.Sheets.{credit, gridOf, Playable, Written}
+use Rattle.sheet.proofs.Cells.{putIn, put-is, put-shaped}
 
 module _ (S T U : ℕ → ℕ → ℕ) (m : Move) where
   abbrev w : ℕ
@@ -73,26 +73,3 @@ module _ (s : Sheet) (p : Shaped 32 24 (gridOf s)) (m : Move) (r : Playable (cre
       let shape = put-shaped s p (m .giver) (m .window) _ (r .in-giver) (r .in-window) in
       two-writes (credit s) (credit given) (credit taken) m (r .has) giving
       (put-is given shape (m .taker) (m .window) _ (r .in-taker) (r .in-window))
-
-module _ (g : Grid) (p : Shaped 32 24 g) (m : Move) (r : Playable (cell g) m) where
-  abbrev given-in : Grid
-  given-in = written g (m .giver) (m .window) (cell g (m .giver) (m .window) - 1)
-
-  abbrev taken-in : Grid
-  taken-in = written given-in (m .taker) (m .window) (cell given-in (m .taker) (m .window) + 1)
-
-  giving-in : Written (cell g) (m .giver) (m .window) (cell g (m .giver) (m .window) - 1) (cell given-in)
-  giving-in = written-is 32 24 g p (m .giver) (m .window) _ (r .in-giver) (r .in-window)
-
-  pub taker-le-in : cell given-in (m .taker) (m .window) ≤ cell g (m .taker) (m .window)
-  taker-le-in = given-le (cell g) (cell given-in) (cell taken-in) m giving-in
-
-  pub move-is : Moved g m taken-in
-  move-is =
-      let shape = written-shaped 32 24 g p (m .giver) (m .window) _ (r .in-giver) (r .in-window) in
-      record {
-        shape = written-shaped 32 24 given-in shape (m .taker) (m .window) _ (r .in-taker) (r .in-window);
-        cells =
-            two-writes (cell g) (cell given-in) (cell taken-in) m (r .has) giving-in
-            (written-is 32 24 given-in shape (m .taker) (m .window) _ (r .in-taker) (r .in-window));
-      }

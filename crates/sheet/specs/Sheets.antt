@@ -6,7 +6,7 @@ use mathlib.Core.List.{[], map}
 use Prim.Native.Nat.{ℕ, _<_}
 use lib.ListN.{getD, take}
 use Rattle.fairness.specs.Exchange as exchange
-use Rattle.model.specs.Book.{Grid, cell, Shaped}
+use Rattle.model.specs.Book.{Grid}
 use Rattle.sheet.specs.declared.Row.{Row}
 use Rattle.sheet.specs.declared.Sheet.{Sheet}
 use Rattle.sheet.specs.declared.Move.{Move}
@@ -39,11 +39,6 @@ pub record Playable (s : ℕ → ℕ → ℕ) (m : exchange.Move) : Type 0 where
   pub in-taker : m .taker < 32
   pub has : 0 < s (m .giver) (m .window)
   pub room : s (m .taker) (m .window) < 65535
-
--- the array r is g after a move
-pub record Moved (g : Grid) (m : exchange.Move) (r : Grid) : Type 0 where
-  pub shape : Shaped 32 24 r
-  pub cells : cell r ≡ exchange.play (cell g) m
 
 -- r is s with the number v at seat i in window j
 pub record Written (s : ℕ → ℕ → ℕ) (i j v : ℕ) (r : ℕ → ℕ → ℕ) : Type 0 where

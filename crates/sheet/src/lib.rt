@@ -4,8 +4,8 @@ ghost use Prim.Native.Nat.{ℕ, _≤_, _<_};
 ghost use lib.ListN.{getD};
 ghost use Rattle.fairness.specs.Sums.{sum};
 ghost use Rattle.fairness.specs.Exchange.{play};
-ghost use Rattle.model.specs.Book.{cell, Shaped};
-ghost use Rattle.sheet.specs.Sheets.{credit, gridOf, moveOf, Playable, Moved, Written};
+ghost use Rattle.model.specs.Book.{cell};
+ghost use Rattle.sheet.specs.Sheets.{credit, gridOf, moveOf, Playable};
 
 // A seat's cells, one for each window.
 #[repr(C)]
@@ -82,17 +82,6 @@ impl Sheet {
         total
     }
 
-    // The sheet with a number at a seat in a window.
-    pub fn put(mut self, seat: usize, window: usize, value: u16) -> Sheet
-        requires { ⌜ (seat < 32) × (window < 24) ⌝ }
-        ensures { λ r. ⌜ Written (credit self) seat window value (credit r) ⌝ }
-    {
-        let mut row = self.rows[seat];
-        row.cells[window] = value;
-        self.rows[seat] = row;
-        self
-    }
-
     // The sheet after a move. The giver and the taker may be one seat, and then nothing changes.
     pub fn play(mut self, m: Move) -> Sheet
         requires { ⌜ Playable (credit self) (moveOf m) ⌝ }
@@ -134,17 +123,4 @@ impl Sheet {
         }
         sheet
     }
-}
-
-// A move on a bare array of arrays, in place. A reference does not tell an array's shape, so the caller does.
-pub fn move_in(grid: &mut [[u16; 24]; 32], m: Move)
-    requires { ⌜ Shaped 32 24 (now grid) ⌝ }
-    requires { ⌜ Playable (cell (now grid)) (moveOf m) ⌝ }
-    ensures { λ _. ⌜ Moved (now (grid .entry)) (moveOf m) (now (grid .exit)) ⌝ }
-{
-    let w = m.window;
-    let g = m.giver;
-    let t = m.taker;
-    grid[g][w] -= 1;
-    grid[t][w] += 1;
 }

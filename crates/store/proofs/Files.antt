@@ -15,8 +15,7 @@ use Rattle.dayfile.specs.declared.Book as Memory
 use Rattle.dayfile.proofs.Tables.{sized-length}
 use Rattle.dayfile.proofs.Fields.{length-bytes}
 use Rattle.dayfile.proofs.Grids.{sized-flat-length}
-use Rattle.dayfile.proofs.Container.{length-contents}
-use Rattle.store.specs.Stores.{stored, Put, optional, countIf, sizeIf, entriesOf, entry, bookEntries, head, bodyFields, fileLength, partsIn}
+use Rattle.store.specs.Stores.{Put, optional, countIf, sizeIf, entriesOf, entry, bookEntries, head, bodyFields, fileLength, partsIn}
 use Rattle.store.proofs.Storing.{stored-front, put-as, put-then}
 
 -- ---- a part that may be missing: its entry, its body, its count

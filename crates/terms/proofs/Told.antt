@@ -3,9 +3,9 @@ use mathlib.Core.Path.{refl, sym}
 use Prim.Native.Nat.{ℕ}
 use native.Mathlib.Nat.{le-trans}
 use native.Mathlib.Omega.{arith}
-use Rattle.fairness.specs.Instance.{Instance, Proper, Feasible, Wasteful}
+use Rattle.fairness.specs.Instance.{Instance, Proper, Feasible}
 use Rattle.fairness.specs.Exchange.{Settled}
-use Rattle.fairness.proofs.Alike.{Alike, alike-back, alike-feasible, alike-wasteful, alike-settled}
+use Rattle.fairness.proofs.Alike.{Alike, alike-back, alike-feasible, alike-settled}
 use Rattle.model.specs.Book.{Grid}
 use Rattle.sheet.specs.declared.Sheet.{Sheet}
 use Rattle.sheet.specs.Sheets.{credit}
@@ -66,11 +66,5 @@ module _ (t : Terms) (caps : Grid) where
     told-feasible-in S = alike-feasible I (instanceIn t caps) S S (alike-out S)
 
     -- and from it
-    pub told-feasible : (S : ℕ → ℕ → ℕ) → Feasible (instanceIn t caps) S → Feasible I S
-    told-feasible S = alike-feasible (instanceIn t caps) I S S (alike-in S)
-
-    pub told-full : (S : ℕ → ℕ → ℕ) → (Wasteful (instanceIn t caps) S → ⊥) → Wasteful I S → ⊥
-    told-full S full w = full (alike-wasteful I (instanceIn t caps) S S (alike-out S) w)
-
     pub told-settled : (S : ℕ → ℕ → ℕ) → Settled (instanceIn t caps) S → Settled I S
     told-settled S = alike-settled (instanceIn t caps) I S S (alike-in S)

@@ -11,13 +11,12 @@ use Rattle.fairness.specs.Sums.{sum}
 use Rattle.fairness.specs.Instance.{placed}
 use Rattle.fairness.proofs.Sums.{sum-eq}
 use Rattle.model.specs.Lowest.{lowest, isSome}
-use Rattle.model.specs.Book.{Book, Grid, cell, seats, windows, instanceOf}
+use Rattle.model.specs.Book.{Book, Grid, cell, instanceOf}
 use Rattle.model.specs.Marks.{seatBelow, wastedWindow}
 use Rattle.dayfile.proofs.Search.{same-search, none-more, found-here, none-here}
 use Rattle.sheet.specs.declared.Sheet.{Sheet}
 use Rattle.sheet.specs.Sheets.{credit}
 use Rattle.waste.specs.Wastes.{lowestBelow, lowestLeft, InMemory, Tells}
-use Rattle.waste.specs.declared.Waste.{Waste}
 use Rattle.waste.specs.declared.Waste.the-variants.{Nowhere, At}
 
 -- something where a test holds

@@ -1,6 +1,6 @@
 -- The first number out of bounds, in a list that comes in parts.
 -- Assumes nothing.
-use mathlib.Core.Bool.{Bool, true, false, not}
+use mathlib.Core.Bool.{Bool, false, not}
 use mathlib.Core.List.{List, [], _++_, append-assoc, append-nil}
 use mathlib.Core.Logic.{⊎-elim, _⊎_, inl, inr}
 use mathlib.Core.Option.{Option, none, some}
@@ -11,13 +11,14 @@ use native.Mathlib.Omega.{arith}
 use lib.ListN.{length, getD, length-append, List·getD-append}
 use lib.Seq.{getD-append-add}
 use Rattle.model.specs.Lowest.{lowest}
+use Rattle.model.proofs.Lowest.{Lowest, Fails, lowest-fails, lowest-is, lowest-some, lowest-none}
 use Rattle.dayfile.specs.Table.{within, offset}
 use Rattle.model.specs.Book.{Grid}
 use Rattle.dayfile.specs.File.{flat}
 use Rattle.dayfile.specs.Memory.{sized, sizedGrid}
 use Rattle.dayfile.proofs.Tables.{sized-length, sized-at}
 use Rattle.dayfile.proofs.Grids.{sized-flat-length, sized-flat-none, sized-flat-more}
-use Rattle.dayfile.proofs.Search.{Lowest, found-here, none-all, lowest-none, lowest-some, offset-none, offset-some, same-search}
+use Rattle.dayfile.proofs.Search.{offset-none, offset-some, same-search}
 use Rattle.writer.specs.Lines.{outsideIn}
 
 lt-or-le : (a b : ℕ) → (a < b) ⊎ (b ≤ a)
@@ -50,26 +51,29 @@ module _ (low high : ℕ) where
   right a b i = ap (λ (x : ℕ). not (within low high x)) (getD-append-add a b i 0)
 
   -- none in the first, and none before place i of the second
-  clear : (a b : List ℕ) (i : ℕ) → lowest (length a) (out a) ≡ none → lowest i (out b) ≡ none
-      → lowest (length a + i) (out (a ++ b)) ≡ none
-  clear a b i p q = none-all (out (a ++ b)) (length a + i) (λ j h. ⊎-elim (first j) (second j h) (lt-or-le j (length a)))
+  clear : (a b : List ℕ) (i : ℕ) → Fails (length a) (out a) → Fails i (out b) → Fails (length a + i) (out (a ++ b))
+  clear a b i p q = λ j h. ⊎-elim (first j) (second j h) (lt-or-le j (length a))
     where
       first : (j : ℕ) → j < length a → out (a ++ b) j ≡ false
-      first j l = left a b j l ∙ lowest-none (out a) (length a) p j l
+      first j l = left a b j l ∙ p j l
 
       second : (j : ℕ) → j < length a + i → length a ≤ j → out (a ++ b) j ≡ false
       second j h l =
           let k : ℕ = j - length a in
-          ap (out (a ++ b)) {x = j} {y = length a + k} (omega arith) ∙ right a b k ∙ lowest-none (out b) i q k (omega arith)
+          ap (out (a ++ b)) {x = j} {y = length a + k} (omega arith) ∙ right a b k ∙ q k (omega arith)
+
+  -- none in a list whose first field stands at `at`
+  fails : (at : ℕ) (a : List ℕ) → outsideIn a at low high ≡ none → Fails (length a) (out a)
+  unfolding outsideIn
+  fails at a e = lowest-none (length a) (out a) (offset-none (λ i. at + 2 * i) (lowest (length a) (out a)) e)
 
   pub outside-none-more : (at : ℕ) (a b : List ℕ) → outsideIn a at low high ≡ none → outsideIn b (at + 2 * length a) low high ≡ none
       → outsideIn (a ++ b) at low high ≡ none
   unfolding outsideIn
   outside-none-more at a b p q =
-      let na = offset-none (λ i. at + 2 * i) (lowest (length a) (out a)) p in
-      let nb = offset-none (λ i. at + 2 * length a + 2 * i) (lowest (length b) (out b)) q in
+      let all = clear a b (length b) (fails at a p) (fails (at + 2 * length a) b q) in
       ap (offset (λ i. at + 2 * i))
-      (ap (λ (n : ℕ). lowest n (out (a ++ b))) (length-append a b) ∙ clear a b (length b) na nb)
+      (ap (λ (n : ℕ). lowest n (out (a ++ b))) (length-append a b) ∙ lowest-fails (length a + length b) (out (a ++ b)) all)
 
   pub outside-some-more : (at : ℕ) (a b d : List ℕ) (p : ℕ) → outsideIn a at low high ≡ none
       → outsideIn b (at + 2 * length a) low high ≡ some p → outsideIn ((a ++ b) ++ d) at low high ≡ some p
@@ -77,20 +81,19 @@ module _ (low high : ℕ) where
   outside-some-more at a b d p h k =
       let o = offset-some (λ i. at + 2 * length a + 2 * i) (lowest (length b) (out b)) p k in
       let i : ℕ = o .0 in
-      let s = lowest-some (out b) (length b) i (o .1) in
-      let i< = s .inside in
+      let s = lowest-some (length b) (out b) i (o .1) in
+      let i< = s .below in
       let la = length-append a b in
       let ld = length-append (a ++ b) d in
       let all : List ℕ = (a ++ b) ++ d in
-      let na = offset-none (λ i. at + 2 * i) (lowest (length a) (out a)) h in
-      let before : lowest (length a + i) (out (a ++ b)) ≡ none = clear a b i na (s .clear) in
-      let here : out all (length a + i) ≡ true = left (a ++ b) d (length a + i) (omega arith) ∙ right a b i ∙ s .passes in
-      let none-before : lowest (length a + i) (out all) ≡ none =
-      none-all (out all) (length a + i)
-      (λ j l. left (a ++ b) d j (omega arith) ∙ lowest-none (out (a ++ b)) (length a + i) before j l) in
+      let before = clear a b i (fails at a h) (s .least) in
+      let found : Lowest (length all) (out all) (length a + i) = record {
+        below = omega arith;
+        passes = left (a ++ b) d (length a + i) (omega arith) ∙ right a b i ∙ s .passes;
+        least = λ j l. left (a ++ b) d j (omega arith) ∙ before j l;
+      } in
       let e = o .2 in
-      ap (offset (λ i. at + 2 * i))
-      (sym (found-here (out all) {i = length a + i} {n = length all} none-before here (omega arith) refl))
+      ap (offset (λ i. at + 2 * i)) (lowest-is (length all) (out all) (length a + i) found)
       ∙ ap some {x = at + 2 * (length a + i)} {y = p} (omega arith)
 
 -- ---- a grid, row by row

@@ -1,10 +1,10 @@
 -- The writer's lines on a book in memory are the table's lines at the file that would be written.
 -- Assumes nothing.
 use mathlib.Core.Bool.{Bool, true, false, not, _&&_}
-use mathlib.Core.List.{List, [], _∷_, _++_, append-assoc}
+use mathlib.Core.List.{List, _∷_, _++_, append-assoc}
 use mathlib.Core.Option.{Option, none, some}
 use mathlib.Core.Path.{_≡_, refl, sym, _∙_, ap, ap₂}
-use Prim.Native.Nat.{ℕ, _+_, _*_, _/_, _%_, _≤_, _<_}
+use Prim.Native.Nat.{ℕ, _+_, _*_, _%_, _≤_, _<_}
 use native.Mathlib.Decide.{decLe}
 use native.Mathlib.Omega.{arith}
 use lib.Dec.{leb, eqb}
@@ -13,8 +13,8 @@ use borrow.Author.Tests.{le-leb, lt-leb, eq-eqb, lt-ltb, le-ltb}
 use Rattle.model.specs.Lowest.{lowest, when}
 use Rattle.model.specs.Book.{Grid}
 use Rattle.dayfile.specs.Layout.{field, entriesIn, contentsEnd, start, size, sizeAt, seatsIn, windowsIn}
-use Rattle.dayfile.specs.File.{Part, part, bodies, assemble, flat, partsOf, fileOf}
-use Rattle.dayfile.specs.Table.{Line, Refusal, line, refuse, firstOf, within, offset, sizeRight, outside}
+use Rattle.dayfile.specs.File.{Part, assemble, flat, fileOf}
+use Rattle.dayfile.specs.Table.{Line, line, refuse, firstOf, within, offset, sizeRight, outside}
 use Rattle.dayfile.specs.Table.{line7, line8, line10, line11, line12, line16}
 use Rattle.dayfile.specs.Table.{valueLines, optionLines, bufferLines, writeLines}
 use Rattle.dayfile.specs.Memory.{sized, sizedGrid, fileIn, front, Writes}
@@ -153,9 +153,7 @@ module _ (b : Memory.Book) (caps : Grid) (sheet : Grid) (t : Bool) where
 
   values-are : valueLines f ≡ valuesIn b caps at
   unfolding valueLines valuesIn
-  values-are =
-      ap₂ (λ (x y : Option ℕ). line 10 x ∷ line 11 y ∷ line 12 (line12 f) ∷ []) ten eleven
-      ∙ ap (λ (z : Option ℕ). line 10 (outsideIn (sized n (b .classes)) at 1 8) ∷ line 11 (outsideIn (sized m (b .supplies)) (at + 2 * n) 0 4095) ∷ line 12 z ∷ []) twelve
+  values-are = rw (ten, eleven, twelve)
 
   lines-file : (room : ℕ) → countLines b ++ (valuesIn b caps at ++ (optionLines f ++ bufferLines room (length f))) ≡ writeLines f room
   unfolding writeLines countLines

@@ -13,6 +13,8 @@ ghost use Rattle.writer.specs.Lines.{outsideIn, countLines, valuesIn};
 use dayfile::Book;
 use dayfile::Check;
 use dayfile::Found;
+use dayfile::first_of;
+use dayfile::outside_at;
 use dayfile::within;
 use store::contents::entries;
 use store::numbers::number;
@@ -21,22 +23,14 @@ use store::numbers::number;
 fn wrong_seats(book: Book) -> Found
     ensures { λ r. ⌜ found r ≡ when (not (within 1 32 (book .seats))) 6 ⌝ }
 {
-    if within(1, 32, book.seats) {
-        Found::Nothing
-    } else {
-        Found::At(6)
-    }
+    outside_at(1, 32, book.seats, 6)
 }
 
 // Line 8: the number of windows.
 fn wrong_windows(book: Book) -> Found
     ensures { λ r. ⌜ found r ≡ when (not (within 1 24 (book .windows))) 12 ⌝ }
 {
-    if within(1, 24, book.windows) {
-        Found::Nothing
-    } else {
-        Found::At(12)
-    }
+    outside_at(1, 24, book.windows, 12)
 }
 
 // The first of n numbers that is not low to high, where the first one's field is at `at`.
@@ -115,13 +109,7 @@ fn cap_outside(book: Book, caps: [[u16; 24]; 32], at: usize) -> Found
 fn check_counts(book: Book) -> Check
     ensures { λ r. ⌜ refused r ≡ firstOf (countLines book) ⌝ }
 {
-    if let Found::At(p) = wrong_seats(book) {
-        return Check::Refused { number: 7, at: p };
-    }
-    if let Found::At(p) = wrong_windows(book) {
-        return Check::Refused { number: 8, at: p };
-    }
-    Check::Sound
+    first_of(7, wrong_seats(book), wrong_windows(book), Found::Nothing)
 }
 
 // Lines 10 to 12, where the first body starts at `at`.
@@ -129,16 +117,14 @@ fn check_values(book: Book, caps: [[u16; 24]; 32], at: usize) -> Check
     requires { ⌜ (book .seats ≤ 32) × (book .windows ≤ 24) × (at < 100) ⌝ }
     ensures { λ r. ⌜ refused r ≡ firstOf (valuesIn book caps at) ⌝ }
 {
-    if let Found::At(p) = class_outside(book, at) {
-        return Check::Refused { number: 10, at: p };
-    }
-    if let Found::At(p) = supply_outside(book, at + 2 * book.seats) {
-        return Check::Refused { number: 11, at: p };
-    }
-    if let Found::At(p) = cap_outside(book, caps, at + 2 * book.seats + 2 * book.windows) {
-        return Check::Refused { number: 12, at: p };
-    }
-    Check::Sound
+    let supplies_at = at + 2 * book.seats;
+    let caps_at = supplies_at + 2 * book.windows;
+    first_of(
+        10,
+        class_outside(book, at),
+        supply_outside(book, supplies_at),
+        cap_outside(book, caps, caps_at),
+    )
 }
 
 // Lines 7, 8, 10, 11 and 12.

@@ -1,4 +1,4 @@
-use Prim.Native.Nat.{ℕ, _+_, _-_, _*_, _≤_, _<_}
+use Prim.Native.Nat.{ℕ, _+_, _*_}
 use mathlib.Core.Path.{ap, ap₂, _∙_}
 use Rattle.dayfile.proofs.Tests.{cond-yes, cond-no}
 use Rattle.dayfile.specs.Layout.{ends}
@@ -13,7 +13,9 @@ returns c = ap (λ (n : ℕ). 2 + 6 * n) (c .count .ensures .0) ∙ cond-yes _ _
 
 returns-2 : tie.Need-returns-2
 unfolding ends
-returns-2 c = ap₂ (λ (a b : ℕ). a + b) (c .before .start .ensures .0) (c .size .ensures .0) ∙ cond-no _ _ (ne-eqb _ _ (c .before .before .if1 .left))
+returns-2 c =
+    let s = c .before in
+    ap₂ (λ (a b : ℕ). a + b) (s .start .ensures .0) (c .size .ensures .0) ∙ cond-no _ _ (ne-eqb _ _ (s .before .if1 .left))
 
 pub ends-spec : {M : Type 1} → statement M
 ends-spec =

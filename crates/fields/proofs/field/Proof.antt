@@ -8,7 +8,9 @@ use Rattle.fields.proofs.field.Tie as tie
 
 returns : tie.Need-returns
 unfolding field
-returns c = (ap₂ (λ (a b : ℕ). a + 256 * b) (c .before .byte .ensures .0) (c .byte2 .ensures .0), omega (arith, c .byte2 .ensures .1, c .before .byte .ensures .1))
+returns c =
+    let low = c .before .byte .ensures in
+    let high = c .byte2 .ensures in (ap₂ (λ (a b : ℕ). a + 256 * b) (low .0) (high .0), omega arith)
 
 pub field-spec : {M : Type 1} → statement M
 field-spec =

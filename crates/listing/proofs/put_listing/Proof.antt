@@ -8,8 +8,6 @@ use Rattle.listing.proofs.Bounds.{below, listing-le}
 use Rattle.listing.proofs.Fronts.{front-room, printed}
 use Rattle.listing.proofs.put_listing.Statement.{statement}
 use Rattle.listing.proofs.put_listing.Tie as tie
-use Rattle.listing.proofs.put_listing.Reads as reads
-use Rattle.listing.proofs.put_listing.Lts as lts
 
 -- the buffer has room for the whole text
 fits : (c : tie.After-shared-slice-known) → let a = c .before .before .args in

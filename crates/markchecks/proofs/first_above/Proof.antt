@@ -7,7 +7,6 @@ use mathlib.Core.Option.{none}
 use mathlib.Core.Path.{_≡_, refl, ap, sym}
 use Prim.Native.Nat.{ℕ, _+_, _-_, _*_, _≤_, zero-le}
 use lib.Dec.{ltb}
-use denote.Ref.{now}
 use Rattle.model.specs.Lowest.{lowest}
 use Rattle.dayfile.specs.Layout.{field}
 use Rattle.dayfile.specs.Table.{offset}

@@ -1,9 +1,8 @@
 -- `markchecks::placed` meets its contract. Each turn adds one seat's cell.
 use borrow.Author.Needs.{needs}
-use Prim.Native.Nat.{ℕ, _+_, _-_, _*_, _<_}
-use mathlib.Core.Path.{_≡_, _∙_, sym, ap}
+use Prim.Native.Nat.{_-_, _*_, _<_}
+use mathlib.Core.Path.{_∙_}
 use native.Mathlib.Omega.{arith}
-use denote.Ref.{now}
 use Rattle.sheet.proofs.Sums.{Summed, first, last}
 use Rattle.markchecks.proofs.Steps.{cellIn, add-cell, placed-is, row-small}
 use Rattle.markchecks.proofs.placed.Statement.{statement}

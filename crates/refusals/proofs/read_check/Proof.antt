@@ -1,4 +1,4 @@
-use mathlib.Core.List.{_++_, append-nil}
+use mathlib.Core.List.{append-nil}
 use mathlib.Core.Path.{sym, _∙_, ap}
 use borrow.Author.Needs.{needs}
 use Rattle.dayfile.specs.Table.{firstOf, contentsLines, lengthLines, valueLines, optionLines, readLines}

@@ -3,7 +3,7 @@ use Rattle.sheet.specs.Sheets.{credit}
 use Rattle.fairness.proofs.Theorems.{measure}
 use Rattle.terms.specs.Terms.{instanceIn}
 use Rattle.terms.proofs.Told.{told-in, feasible-counted}
-use Rattle.settle.specs.Fill.{Full}
+use Rattle.fill.specs.Fills.{Full}
 use Rattle.settle.specs.Offers.{Offers}
 use Rattle.settle.proofs.Turns.{turn-playable, turn-full, turn-less, turn-last}
 use Rattle.settle.proofs.settle.Statement.{statement}

@@ -1,7 +1,6 @@
 -- `waste::seat_below` meets its contract: no seat passed yet is below its cap.
 use borrow.Author.Needs.{needs}
 use borrow.Author.Tests.{lt-ltb, le-ltb}
-use native.Mathlib.Omega.{arith}
 use mathlib.Core.Bool.{Bool}
 use mathlib.Core.Option.{none}
 use mathlib.Core.Path.{_≡_, refl, sym}

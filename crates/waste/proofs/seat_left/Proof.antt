@@ -1,10 +1,6 @@
 -- `waste::seat_left` meets its contract: by whether the window has credits left.
 use borrow.Author.Needs.{needs}
 use borrow.Author.Tests.{lt-ltb, le-ltb}
-use Prim.Native.Nat.{ℕ, _≤_, _<_}
-use lib.ListN.{getD}
-use Rattle.model.specs.Book.{cell}
-use Rattle.sheet.specs.Sheets.{credit}
 use Rattle.waste.proofs.Laws.{left-is, full-is}
 use Rattle.waste.proofs.seat_left.Statement.{statement}
 use Rattle.waste.proofs.seat_left.Tie as tie

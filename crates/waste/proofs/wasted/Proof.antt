@@ -2,7 +2,7 @@
 use borrow.Author.Needs.{needs}
 use mathlib.Core.Option.{none}
 use mathlib.Core.Path.{_≡_, sym}
-use Prim.Native.Nat.{ℕ, _-_, _≤_, zero-le}
+use Prim.Native.Nat.{_-_, _≤_, zero-le}
 use Rattle.model.specs.Lowest.{lowest}
 use Rattle.dayfile.proofs.Search.{none-first}
 use Rattle.dayfile.proofs.Answers.{at-line, no-line}

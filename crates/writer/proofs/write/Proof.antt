@@ -24,7 +24,7 @@ returns-2 c =
     let k = t .before .before in
     let a = k .before .before .args in
     let p = passes (k .check-book .ensures) (t .enum-told .given .1) in
-    no-room (a .book) (a .caps) (a .sheet) (a .there) _ p (l .file-length .ensures (a .caps) (a .sheet)) (c .if1 .taken)
+    no-room (a .book) (a .caps) (a .sheet) (a .there) _ p (l .file-length .ensures (a .caps) (a .sheet)) (omega arith)
 
 put-file-requires : tie.Need-put-file-requires
 put-file-requires c κs =
@@ -34,7 +34,7 @@ put-file-requires c κs =
     let a = k .before .before .args in
     let e = l .file-length .ensures (a .caps) (a .sheet) in
     let p = passes (k .check-book .ensures) (t .enum-told .given .1) in
-    let b = book-pass (a .book) (a .caps) (a .sheet) (a .there) p in (b .0, b .1, omega (arith, c .before .if1 .left))
+    let b = book-pass (a .book) (a .caps) (a .sheet) (a .there) p in (b .0, b .1, omega arith)
 
 returns-3 : tie.Need-returns-3
 returns-3 c =

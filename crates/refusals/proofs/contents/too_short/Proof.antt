@@ -1,7 +1,6 @@
 use Rattle.dayfile.proofs.Tests.{yes-when, no-when}
 use borrow.Author.Tests.{lt-ltb, le-ltb}
 use Rattle.dayfile.specs.Table.{line1}
-use borrow.Author.Tests.{lt-ltb, le-ltb, le-leb, lt-leb, eq-eqb, ne-eqb}
 use Rattle.refusals.proofs.contents.too_short.Statement.{statement}
 use Rattle.refusals.proofs.contents.too_short.Tie as tie
 

@@ -1,43 +1,49 @@
+use mathlib.Core.Bool.{not}
+use mathlib.Core.Path.{ap}
+use Prim.Native.Nat.{_-_}
 use native.Mathlib.Omega.{arith}
-use borrow.Author.Tests.{eq-eqb, ne-eqb}
-use mathlib.Core.Path.{refl}
-use borrow.Author.Needs.{needs}
 use lib.Dec.{eqb}
-use mathlib.Core.List.{List}
-use mathlib.Core.Bool.{Bool}
-use Rattle.model.specs.Lowest.{lowest}
-use mathlib.Core.Option.{none}
-use Prim.Native.Nat.{ℕ, _+_, _-_, _*_, _≤_, _<_, zero-le}
+use borrow.Author.Needs.{needs}
 use denote.Ref.{now}
-use mathlib.Core.Path.{_≡_, ap, _∙_, sym}
-use Rattle.dayfile.proofs.Search.{wrong, none-yet, passed, found-at, none-at}
 use Rattle.dayfile.specs.Layout.{count, start, ends, startAt}
-use Rattle.dayfile.specs.Table.{line5}
+use Rattle.dayfile.specs.Table.{offset, line5}
+use Rattle.dayfile.proofs.Tests.{differ, agree}
+use Rattle.dayfile.proofs.Search.{Searching, search-first, search-on, search-hit, search-end}
 use Rattle.refusals.proofs.contents.wrong_start.Statement.{statement}
 use Rattle.refusals.proofs.contents.wrong_start.Tie as tie
 
-abbrev startRight : List ℕ → ℕ → Bool
-startRight f e = eqb (start f e) (ends f e)
-
 abbrev Inv-loop : tie.InvT-loop
-Inv-loop file n e₀ e = (e ≤ n) × (n ≡ count file) × (n < 65536) × (lowest e (wrong (startRight file)) ≡ none)
+Inv-loop file n e₀ e = Searching (λ k. not (eqb (start file k) (ends file k))) (count file) n e
 
 abbrev μ-loop : tie.MeasureT-loop
 μ-loop file n e₀ e = n - e
 
 loop-holds : tie.Need-loop-holds Inv-loop μ-loop
-loop-holds c = (zero-le, c .count .ensures .0, c .count .ensures .1, sym (none-yet (startRight (now (c .before .before .args .file)))))
+loop-holds c = search-first (c .count .ensures .0)
 
 returns : tie.Need-returns Inv-loop μ-loop
 unfolding line5
-returns c = let i = c .before .before .before .before .loop .inv in found-at (startRight _) startAt (i .3) refl (ne-eqb _ _ (λ q. c .if1 .taken (c .before .before .start .ensures .0 ∙ q ∙ sym (c .before .ends .ensures)))) (c .before .before .before .loop-test .taken) (i .1)
+returns c =
+    let t = c .before in
+    let l = t .before .before .before in
+    let f = now (l .before .before .before .args .file) in
+    let s = t .before .start .ensures .0 in
+    let g = t .ends .ensures in
+    let wrong = differ (start f (l .loop .e)) (ends f (l .loop .e)) (λ q. omega arith) in
+    ap (offset startAt) (search-hit (l .loop .inv) (omega arith) wrong)
 
 loop-again : tie.Need-loop-again Inv-loop μ-loop
-loop-again c = let i = c .before .before .before .before .loop .inv in (omega arith, i .1, i .2, passed (startRight _) (i .3) refl (eq-eqb _ _ (sym (c .before .before .start .ensures .0) ∙ c .if1 .left ∙ c .before .ends .ensures)))
+loop-again c =
+    let t = c .before in
+    let l = t .before .before .before in
+    let f = now (l .before .before .before .args .file) in
+    let s = t .before .start .ensures .0 in
+    let g = t .ends .ensures in
+    search-on (l .loop .inv) (omega arith) (agree (start f (l .loop .e)) (ends f (l .loop .e)) (omega arith))
 
 returns-2 : tie.Need-returns-2 Inv-loop μ-loop
 unfolding line5
-returns-2 c = let i = c .before .loop .inv in none-at (startRight _) startAt (i .3) (i .0) (c .loop-test .left) (i .1)
+returns-2 c = ap (offset startAt) (search-end (c .before .loop .inv) (omega arith))
 
 pub wrong-start-spec : {M : Type 1} → statement M
 wrong-start-spec =

@@ -1,7 +1,6 @@
 use mathlib.Core.Path.{_∙_, sym}
 use Rattle.dayfile.specs.Table.{sizeRight}
 use Rattle.dayfile.proofs.Tests.{and-yes, and-no}
-use borrow.Author.Tests.{lt-ltb, le-ltb, le-leb, lt-leb, eq-eqb, ne-eqb}
 use borrow.Author.Needs.{needs}
 use Rattle.refusals.proofs.lengths.size_right.Statement.{statement}
 use Rattle.refusals.proofs.lengths.size_right.Tie as tie

@@ -1,36 +1,39 @@
-use borrow.Author.Tests.{not-true, not-false}
+use mathlib.Core.Bool.{not}
+use mathlib.Core.Path.{ap}
+use Prim.Native.Nat.{_-_}
 use native.Mathlib.Omega.{arith}
 use borrow.Author.Needs.{needs}
-use Rattle.model.specs.Lowest.{lowest}
-use mathlib.Core.Option.{none}
-use Prim.Native.Nat.{ℕ, _+_, _-_, _*_, _≤_, _<_, zero-le}
-use denote.Ref.{now}
-use mathlib.Core.Path.{_≡_, ap, _∙_, sym}
-use Rattle.dayfile.proofs.Search.{wrong, none-yet, passed, found-at, none-at}
 use Rattle.dayfile.specs.Layout.{count, sizeAt}
-use Rattle.dayfile.specs.Table.{line9, gridRight}
+use Rattle.dayfile.specs.Table.{offset, gridRight, line9}
+use Rattle.dayfile.proofs.Tests.{turned}
+use Rattle.dayfile.proofs.Search.{Searching, search-first, search-on, search-hit, search-end}
 use Rattle.refusals.proofs.lengths.wrong_grid.Statement.{statement}
 use Rattle.refusals.proofs.lengths.wrong_grid.Tie as tie
 
 abbrev Inv-loop : tie.InvT-loop
-Inv-loop file n e₀ e = (e ≤ n) × (n ≡ count file) × (n < 65536) × (lowest e (wrong (gridRight file)) ≡ none)
+Inv-loop file n e₀ e = Searching (λ k. not (gridRight file k)) (count file) n e
 
 abbrev μ-loop : tie.MeasureT-loop
 μ-loop file n e₀ e = n - e
 
 loop-holds : tie.Need-loop-holds Inv-loop μ-loop
-loop-holds c = (zero-le, c .count .ensures .0, c .count .ensures .1, sym (none-yet (gridRight (now (c .before .before .args .file)))))
+loop-holds c = search-first (c .count .ensures .0)
 
 returns : tie.Need-returns Inv-loop μ-loop
 unfolding line9
-returns c = let i = c .before .before .before .loop .inv in found-at (gridRight _) sizeAt (i .3) (c .before .grid-right .ensures) (not-true _ (c .if1 .taken)) (c .before .before .loop-test .taken) (i .1)
+returns c =
+    let t = c .before in
+    let wrong = turned (t .grid-right .ensures) (c .if1 .taken) in
+    ap (offset sizeAt) (search-hit (t .before .before .loop .inv) (omega arith) wrong)
 
 loop-again : tie.Need-loop-again Inv-loop μ-loop
-loop-again c = let i = c .before .before .before .loop .inv in (omega arith, i .1, i .2, passed (gridRight _) (i .3) (c .before .grid-right .ensures) (not-false _ (c .if1 .left)))
+loop-again c =
+    let t = c .before in
+    search-on (t .before .before .loop .inv) (omega arith) (turned (t .grid-right .ensures) (c .if1 .left))
 
 returns-2 : tie.Need-returns-2 Inv-loop μ-loop
 unfolding line9
-returns-2 c = let i = c .before .loop .inv in none-at (gridRight _) sizeAt (i .3) (i .0) (c .loop-test .left) (i .1)
+returns-2 c = ap (offset sizeAt) (search-end (c .before .loop .inv) (omega arith))
 
 pub wrong-grid-spec : {M : Type 1} → statement M
 wrong-grid-spec =

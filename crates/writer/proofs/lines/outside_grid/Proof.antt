@@ -1,6 +1,6 @@
 use mathlib.Core.Option.{none}
 use mathlib.Core.Path.{_≡_, sym, _∙_, ap}
-use Prim.Native.Nat.{ℕ, _-_, _≤_, zero-le}
+use Prim.Native.Nat.{ℕ, _*_, _-_, _≤_, zero-le}
 use native.Mathlib.Nat.{mul-le-mul}
 use native.Mathlib.Omega.{arith}
 use borrow.Author.Needs.{needs}
@@ -18,25 +18,25 @@ abbrev μ-loop : tie.MeasureT-loop
 loop-holds : tie.Need-loop-holds Inv-loop μ-loop
 loop-holds c = let a = c .args in (zero-le, rows-first (a .low) (a .high) (a .at) (a .m) (a .t1))
 
+-- a row's offset
+few : (i m : ℕ) → i ≤ 32 → m ≤ 24 → i * m ≤ 768
+few i m h k = mul-le-mul h k
+
 mul-outside-row : tie.Need-mul-outside-row Inv-loop μ-loop
 mul-outside-row c =
-    let l = c .before .before .before in
-    let q = mul-le-mul {n₁ = l .loop .i} {m₁ = l .before .args .m} {n₂ = 32} {m₂ = 24} (omega arith) (omega arith) in omega arith
+    let l = c .before .before .before in let q = few (l .loop .i) (l .before .args .m) (omega arith) (omega arith) in omega arith
 
 mul-outside-row-2 : tie.Need-mul-outside-row-2 Inv-loop μ-loop
 mul-outside-row-2 c =
-    let l = c .before .before .before in
-    let q = mul-le-mul {n₁ = l .loop .i} {m₁ = l .before .args .m} {n₂ = 32} {m₂ = 24} (omega arith) (omega arith) in omega arith
+    let l = c .before .before .before in let q = few (l .loop .i) (l .before .args .m) (omega arith) (omega arith) in omega arith
 
 add-outside-row : tie.Need-add-outside-row Inv-loop μ-loop
 add-outside-row c =
-    let l = c .before .before .before in
-    let q = mul-le-mul {n₁ = l .loop .i} {m₁ = l .before .args .m} {n₂ = 32} {m₂ = 24} (omega arith) (omega arith) in omega arith
+    let l = c .before .before .before in let q = few (l .loop .i) (l .before .args .m) (omega arith) (omega arith) in omega arith
 
 outside-row-requires : tie.Need-outside-row-requires Inv-loop μ-loop
 outside-row-requires c κs =
-    let l = c .before .before .before in
-    let q = mul-le-mul {n₁ = l .loop .i} {m₁ = l .before .args .m} {n₂ = 32} {m₂ = 24} (omega arith) (omega arith) in omega arith
+    let l = c .before .before .before in let q = few (l .loop .i) (l .before .args .m) (omega arith) (omega arith) in omega arith
 
 returns : tie.Need-returns Inv-loop μ-loop
 returns c =

@@ -1,0 +1,305 @@
+/* Plans, marks, reads, writes and lists day files by libcredits, and checks all that it sees.
+ *
+ *     example FOLDER       FOLDER is examples/ of this repository
+ *
+ * Files and buffers are blocks of exactly the length handed over, so that valgrind sees a byte read or written beside them. */
+#include <assert.h>
+#include <stdio.h>
+#include <stdlib.h>
+#include <string.h>
+
+#include "credits.h"
+
+#define UNTOUCHED 0xee /* what a buffer holds before a call */
+
+/* The layout that the library was built with. */
+static_assert(offsetof(credits_book, windows) == 8, "windows");
+static_assert(offsetof(credits_book, classes) == 16, "classes");
+static_assert(offsetof(credits_book, supplies) == 80, "supplies");
+static_assert(offsetof(credits_book, caps) == 128, "caps");
+static_assert(offsetof(credits_book, has_sheet) == 1664, "has_sheet");
+static_assert(offsetof(credits_book, sheet) == 1668, "sheet");
+static_assert(sizeof(credits_book) == 3208, "credits_book");
+static_assert(offsetof(credits_read_result, offset) == 8, "offset of a read result");
+static_assert(offsetof(credits_read_result, book) == 16, "book");
+static_assert(sizeof(credits_read_result) == 3224, "credits_read_result");
+static_assert(offsetof(credits_write_result, offset) == 8, "offset of a write result");
+static_assert(offsetof(credits_write_result, length) == 16, "length");
+static_assert(sizeof(credits_write_result) == 24, "credits_write_result");
+static_assert(offsetof(credits_mark_result, offset) == 8, "offset of a mark result");
+static_assert(offsetof(credits_mark_result, mark) == 16, "mark");
+static_assert(offsetof(credits_mark_result, window) == 20, "window");
+static_assert(offsetof(credits_mark_result, seat) == 24, "seat");
+static_assert(offsetof(credits_mark_result, moves) == 28, "moves");
+static_assert(sizeof(credits_mark_result) == 32, "credits_mark_result");
+
+static int checks = 0;
+
+#define CHECK(fact) check((fact), #fact, __LINE__)
+
+static void check(int holds, const char *fact, int line) {
+    checks++;
+    if (!holds) {
+        fprintf(stderr, "example.c:%d: does not hold: %s\n", line, fact);
+        exit(1);
+    }
+}
+
+/* ---- bytes */
+
+typedef struct {
+    uint8_t *at;
+    size_t length;
+} bytes;
+
+static bytes block(size_t length) {
+    bytes b = {length == 0 ? NULL : malloc(length), length};
+    CHECK(length == 0 || b.at != NULL);
+    if (length != 0) memset(b.at, UNTOUCHED, length);
+    return b;
+}
+
+static bytes copy(const uint8_t *from, size_t length) {
+    bytes b = block(length);
+    if (length != 0) memcpy(b.at, from, length);
+    return b;
+}
+
+static bytes load(const char *folder, const char *name, const char *ending) {
+    char path[512];
+    uint8_t front[8192];
+    snprintf(path, sizeof path, "%s/%s%s", folder, name, ending);
+    FILE *f = fopen(path, "rb");
+    CHECK(f != NULL);
+    size_t length = fread(front, 1, sizeof front, f);
+    CHECK(fclose(f) == 0 && length < sizeof front);
+    return copy(front, length);
+}
+
+static int same(const uint8_t *a, bytes b, size_t length) {
+    return length == b.length && memcmp(a, b.at, length) == 0;
+}
+
+/* Whether a buffer holds what it held before a call, from some byte on. */
+static int untouched(bytes b, size_t from) {
+    for (size_t i = from; i < b.length; i++)
+        if (b.at[i] != UNTOUCHED) return 0;
+    return 1;
+}
+
+/* ---- calls that are to be taken */
+
+static credits_book book_in(bytes file) {
+    credits_read_result r = credits_read(file.at, file.length);
+    CHECK(r.refusal == CREDITS_OK && r.offset == 0);
+    return r.book;
+}
+
+static bytes planned(bytes file) {
+    bytes out = block(CREDITS_FILE_MAX);
+    credits_write_result r = credits_plan(file.at, file.length, out.at, out.length);
+    CHECK(r.refusal == CREDITS_OK && r.offset == 0 && r.length <= out.length && untouched(out, r.length));
+    bytes plan = copy(out.at, r.length);
+    free(out.at);
+    return plan;
+}
+
+static bytes written(credits_book book) {
+    bytes out = block(CREDITS_FILE_MAX);
+    credits_write_result r = credits_write(book, out.at, out.length);
+    CHECK(r.refusal == CREDITS_OK && r.offset == 0 && r.length <= out.length && untouched(out, r.length));
+    bytes file = copy(out.at, r.length);
+    free(out.at);
+    return file;
+}
+
+static void expect_listing(bytes file, const char *folder, const char *name, const char *ending) {
+    bytes text = load(folder, name, ending);
+    bytes out = block(CREDITS_LISTING_MAX);
+    credits_write_result r = credits_listing(file.at, file.length, out.at, out.length);
+    CHECK(r.refusal == CREDITS_OK && r.offset == 0 && same(out.at, text, r.length) && untouched(out, r.length));
+    free(out.at);
+    free(text.at);
+}
+
+static size_t total(const credits_book *book, size_t seat) {
+    size_t sum = 0;
+    for (size_t w = 0; w < book->windows; w++) sum += book->sheet[seat][w];
+    return sum;
+}
+
+/* ---- every example: listed, written again, planned, and the plan listed */
+
+static const char *const examples[] = {"k01", "k02", "k03",  "k04",  "k05", "k06", "k07",        "k08",
+                                       "k09", "k10a", "k10b", "k11", "k12", "full-alone", "full-ladder"};
+
+static void try_example(const char *folder, const char *name) {
+    bytes file = load(folder, name, ".day");
+    credits_book book = book_in(file);
+    bytes again = written(book);
+    CHECK(same(again.at, file, again.length));
+    bytes plan = planned(file);
+    credits_book fair = book_in(plan);
+    CHECK(fair.has_sheet == 1 && fair.seats == book.seats && fair.windows == book.windows);
+    CHECK(memcmp(fair.caps, book.caps, sizeof book.caps) == 0);
+    bytes moves = block(CREDITS_MOVES_MAX);
+    credits_mark_result m = credits_mark(plan.at, plan.length, moves.at, moves.length);
+    CHECK(m.refusal == CREDITS_OK && m.offset == 0 && m.mark == CREDITS_SETTLED);
+    CHECK(m.window == 0 && m.seat == 0 && m.moves == 0 && untouched(moves, 0));
+    expect_listing(file, folder, name, ".listing");
+    expect_listing(plan, folder, name, ".planned.listing");
+    printf("%-11s %2zu seats, %2zu windows: planned, %4zu bytes, mark 4\n", name, book.seats, book.windows, plan.length);
+    free(moves.at);
+    free(plan.at);
+    free(again.at);
+    free(file.at);
+}
+
+/* ---- a spoilt sheet: its chain, played until the sheet is settled */
+
+static void play(credits_book *book, bytes moves, uint32_t count) {
+    for (uint32_t i = 0; i < count; i++) {
+        unsigned window = moves.at[3 * i], giver = moves.at[3 * i + 1], taker = moves.at[3 * i + 2];
+        printf("  window %u from %u to %u\n", window, giver, taker);
+        CHECK(0 < book->sheet[giver - 1][window - 1]);
+        CHECK(book->sheet[taker - 1][window - 1] < book->caps[taker - 1][window - 1]);
+        book->sheet[giver - 1][window - 1]--;
+        book->sheet[taker - 1][window - 1]++;
+    }
+}
+
+static credits_mark_result mark_and_play(credits_book *book) {
+    bytes file = written(*book);
+    bytes moves = block(CREDITS_MOVES_MAX);
+    credits_mark_result m = credits_mark(file.at, file.length, moves.at, moves.length);
+    CHECK(m.refusal == CREDITS_OK && untouched(moves, 3 * m.moves));
+    printf("k08 mark %u, %u moves\n", m.mark, m.moves);
+    play(book, moves, m.moves);
+    free(moves.at);
+    free(file.at);
+    return m;
+}
+
+static void try_chain(const char *folder) {
+    bytes file = load(folder, "k08", ".day");
+    bytes moves = block(CREDITS_MOVES_MAX);
+    credits_mark_result m = credits_mark(file.at, file.length, moves.at, moves.length);
+    CHECK(m.mark == CREDITS_IMPROVABLE && m.moves == 2 && m.window == 0 && m.seat == 0);
+    CHECK(memcmp(moves.at, "\1\2\1\2\3\2", 6) == 0 && untouched(moves, 6));
+    credits_book book = book_in(file);
+    CHECK(mark_and_play(&book).mark == CREDITS_IMPROVABLE);
+    CHECK(mark_and_play(&book).mark == CREDITS_TIED);
+    CHECK(mark_and_play(&book).mark == CREDITS_SETTLED);
+    bytes plan = planned(file);
+    credits_book fair = book_in(plan);
+    for (size_t i = 0; i < fair.seats; i++) CHECK(total(&book, i) == total(&fair, i));
+    printf("k08 settled: totals %zu %zu %zu, as planned\n", total(&fair, 0), total(&fair, 1), total(&fair, 2));
+    free(plan.at);
+    free(moves.at);
+    free(file.at);
+}
+
+static void try_waste(const char *folder) {
+    bytes file = load(folder, "k10a", ".day");
+    bytes moves = block(CREDITS_MOVES_MAX);
+    credits_mark_result m = credits_mark(file.at, file.length, moves.at, moves.length);
+    CHECK(m.refusal == CREDITS_OK && m.mark == CREDITS_WASTEFUL && m.window == 1 && m.seat == 1 && m.moves == 0);
+    CHECK(untouched(moves, 0));
+    printf("k10a mark 1, window %u seat %u\n", m.window, m.seat);
+    free(moves.at);
+    free(file.at);
+}
+
+/* ---- refusals, which leave every buffer as it was */
+
+static int refused(credits_write_result r, uint32_t number, size_t offset) {
+    return r.refusal == number && r.offset == offset && r.length == 0;
+}
+
+static int all_zero(const credits_book *b) {
+    static const credits_book zero;
+    return b->seats == 0 && b->windows == 0 && b->has_sheet == 0 && memcmp(b->classes, zero.classes, sizeof b->classes) == 0 &&
+           memcmp(b->supplies, zero.supplies, sizeof b->supplies) == 0 && memcmp(b->caps, zero.caps, sizeof b->caps) == 0 &&
+           memcmp(b->sheet, zero.sheet, sizeof b->sheet) == 0;
+}
+
+/* A file that read, plan and mark refuse alike. */
+static void expect_refused(bytes file, uint32_t number, size_t offset) {
+    credits_read_result r = credits_read(file.at, file.length);
+    CHECK(r.refusal == number && r.offset == offset && all_zero(&r.book));
+    bytes out = block(CREDITS_FILE_MAX), moves = block(CREDITS_MOVES_MAX), text = block(CREDITS_LISTING_MAX);
+    CHECK(refused(credits_plan(file.at, file.length, out.at, out.length), number, offset) && untouched(out, 0));
+    credits_mark_result m = credits_mark(file.at, file.length, moves.at, moves.length);
+    CHECK(m.refusal == number && m.offset == offset && untouched(moves, 0));
+    CHECK(m.mark == 0 && m.window == 0 && m.seat == 0 && m.moves == 0);
+    char line[64];
+    int length = snprintf(line, sizeof line, "refused %u at %zu\n", number, offset);
+    credits_write_result l = credits_listing(file.at, file.length, text.at, text.length);
+    CHECK(l.refusal == CREDITS_OK && l.length == (size_t)length && memcmp(text.at, line, l.length) == 0 && untouched(text, l.length));
+    printf("%zu bytes: %s", file.length, line);
+    free(text.at);
+    free(moves.at);
+    free(out.at);
+}
+
+static void try_refused_files(const char *folder) {
+    bytes nothing = {NULL, 0}, k11 = load(folder, "k11", ".day");
+    bytes less = copy(k11.at, 25);
+    expect_refused(nothing, CREDITS_REFUSED_SHORT, 0);
+    expect_refused(less, CREDITS_REFUSED_END, 25);
+    k11.at[20] = 9; /* its only class */
+    expect_refused(k11, CREDITS_REFUSED_CLASS, 20);
+    free(less.at);
+    free(k11.at);
+}
+
+static void try_short_buffers(const char *folder) {
+    bytes file = load(folder, "k08", ".day"), none = {NULL, 0};
+    bytes moves = block(CREDITS_MOVES_MAX - 1), out = block(file.length - 1), text = block(CREDITS_LISTING_MAX - 1);
+    credits_mark_result m = credits_mark(file.at, file.length, moves.at, moves.length);
+    CHECK(m.refusal == CREDITS_REFUSED_BUFFER && m.offset == CREDITS_MOVES_MAX && m.mark == 0 && untouched(moves, 0));
+    CHECK(refused(credits_plan(file.at, file.length, out.at, out.length), CREDITS_REFUSED_BUFFER, file.length) && untouched(out, 0));
+    CHECK(refused(credits_write(book_in(file), out.at, out.length), CREDITS_REFUSED_BUFFER, file.length) && untouched(out, 0));
+    CHECK(refused(credits_listing(file.at, file.length, text.at, text.length), CREDITS_REFUSED_BUFFER, CREDITS_LISTING_MAX));
+    CHECK(untouched(text, 0));
+    CHECK(refused(credits_plan(file.at, file.length, none.at, none.length), CREDITS_REFUSED_BUFFER, file.length));
+    printf("buffers one byte too short: refused, untouched\n");
+    free(text.at);
+    free(out.at);
+    free(moves.at);
+    free(file.at);
+}
+
+static void try_books(const char *folder) {
+    bytes file = load(folder, "k08", ".day"), out = block(CREDITS_FILE_MAX);
+    credits_book book = book_in(file);
+    book.has_sheet = 7; /* any number but 0 */
+    bytes with = written(book);
+    CHECK(same(with.at, file, with.length));
+    book.has_sheet = 0;
+    bytes without = written(book);
+    CHECK(without.length == file.length - 6 - 12 && book_in(without).has_sheet == 0);
+    book.caps[2][1] = 4096; /* the last cap */
+    CHECK(refused(credits_write(book, out.at, out.length), CREDITS_REFUSED_CAP, without.length - 2) && untouched(out, 0));
+    book.seats = 33;
+    CHECK(refused(credits_write(book, out.at, out.length), CREDITS_REFUSED_SEATS, 6) && untouched(out, 0));
+    book.seats = SIZE_MAX;
+    CHECK(refused(credits_write(book, out.at, out.length), CREDITS_REFUSED_SEATS, 6) && untouched(out, 0));
+    printf("books in memory: with a sheet, without, and refused\n");
+    free(without.at);
+    free(with.at);
+    free(out.at);
+    free(file.at);
+}
+
+int main(int argc, char **argv) {
+    const char *folder = argc == 2 ? argv[1] : "examples";
+    for (size_t i = 0; i < sizeof examples / sizeof examples[0]; i++) try_example(folder, examples[i]);
+    try_chain(folder);
+    try_waste(folder);
+    try_refused_files(folder);
+    try_short_buffers(folder);
+    try_books(folder);
+    printf("C: %d checks passed\n", checks);
+    return 0;
+}

@@ -1,0 +1,114 @@
+"""libcredits for Python, by ctypes: read, write, mark, plan and list day files. include/credits.h says what each call does."""
+import ctypes
+import os
+from typing import NamedTuple
+
+SEATS, WINDOWS = 32, 24
+FILE_MAX, MOVES_MAX, LISTING_MAX = 3210, 93, 3453
+WASTEFUL, IMPROVABLE, TIED, SETTLED = 1, 2, 3, 4
+
+Row = ctypes.c_uint16 * WINDOWS
+Grid = Row * SEATS
+
+
+class Book(ctypes.Structure):
+    """A book in memory; seats and windows count from 0. There is a sheet unless has_sheet is 0."""
+    _fields_ = [('seats', ctypes.c_size_t), ('windows', ctypes.c_size_t), ('classes', ctypes.c_uint16 * SEATS),
+                ('supplies', Row), ('caps', Grid), ('has_sheet', ctypes.c_uint32), ('sheet', Grid)]
+
+    def total(self, seat):
+        return sum(self.sheet[seat][:self.windows])
+
+
+class ReadResult(ctypes.Structure):
+    _fields_ = [('refusal', ctypes.c_uint32), ('offset', ctypes.c_size_t), ('book', Book)]
+
+
+class WriteResult(ctypes.Structure):
+    _fields_ = [('refusal', ctypes.c_uint32), ('offset', ctypes.c_size_t), ('length', ctypes.c_size_t)]
+
+
+class MarkResult(ctypes.Structure):
+    _fields_ = [('refusal', ctypes.c_uint32), ('offset', ctypes.c_size_t), ('mark', ctypes.c_uint32),
+                ('window', ctypes.c_uint32), ('seat', ctypes.c_uint32), ('moves', ctypes.c_uint32)]
+
+
+def declare(path):
+    """The library at a path, with the types of its calls."""
+    library = ctypes.CDLL(path)
+    given = [ctypes.c_char_p, ctypes.c_size_t]
+    lent = [ctypes.POINTER(ctypes.c_uint8), ctypes.c_size_t]
+    for name, arguments, result in (
+            ('credits_read', given, ReadResult), ('credits_write', [Book] + lent, WriteResult),
+            ('credits_mark', given + lent, MarkResult), ('credits_plan', given + lent, WriteResult),
+            ('credits_listing', given + lent, WriteResult)):
+        call = getattr(library, name)
+        call.argtypes, call.restype = arguments, result
+    return library
+
+
+HERE = os.path.dirname(os.path.abspath(__file__))
+LIBRARY = declare(os.environ.get('LIBCREDITS', os.path.join(HERE, '../../target/callers/libcredits.so')))
+
+
+class Refused(Exception):
+    """A refusal: its number and its offset."""
+
+    def __init__(self, number, offset):
+        super().__init__(f'refused {number} at {offset}')
+        self.number, self.offset = number, offset
+
+
+class Move(NamedTuple):
+    """One credit in a window, from a giver to a taker; all count from 1."""
+    window: int
+    giver: int
+    taker: int
+
+
+class Mark(NamedTuple):
+    """Window and seat are those of mark 1, the moves those of marks 2 and 3."""
+    mark: int
+    window: int
+    seat: int
+    moves: list
+
+
+def buffer(length):
+    return (ctypes.c_uint8 * length)()
+
+
+def accepted(result):
+    if result.refusal != 0:
+        raise Refused(result.refusal, result.offset)
+    return result
+
+
+def read(file):
+    """The book of a day file, and its sheet if it has one."""
+    return accepted(LIBRARY.credits_read(file, len(file))).book
+
+
+def write(book):
+    """The day file of a book."""
+    out = buffer(FILE_MAX)
+    return bytes(out[:accepted(LIBRARY.credits_write(book, out, FILE_MAX)).length])
+
+
+def mark(file):
+    """The mark of the sheet in a day file."""
+    out = buffer(MOVES_MAX)
+    m = accepted(LIBRARY.credits_mark(file, len(file), out, MOVES_MAX))
+    return Mark(m.mark, m.window, m.seat, [Move(*out[3 * i:3 * i + 3]) for i in range(m.moves)])
+
+
+def plan(file):
+    """The same day file with a settled sheet."""
+    out = buffer(FILE_MAX)
+    return bytes(out[:accepted(LIBRARY.credits_plan(file, len(file), out, FILE_MAX)).length])
+
+
+def listing(file):
+    """A day file and its mark as text; for a file that cannot be marked, the line `refused N at P`."""
+    out = buffer(LISTING_MAX)
+    return bytes(out[:accepted(LIBRARY.credits_listing(file, len(file), out, LISTING_MAX)).length]).decode()

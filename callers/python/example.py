@@ -1,0 +1,80 @@
+"""Plans, marks, reads, writes and lists the day files of a folder (examples/ of this repository), and checks all that it sees.
+
+    python3 callers/python/example.py [FOLDER]
+"""
+import pathlib
+import sys
+
+import credits
+
+FOLDER = pathlib.Path(sys.argv[1] if len(sys.argv) > 1 else pathlib.Path(__file__).resolve().parents[2] / 'examples')
+
+
+def refusal(call, *arguments):
+    """The number and the offset of the refusal that a call must answer."""
+    try:
+        call(*arguments)
+    except credits.Refused as r:
+        return r.number, r.offset
+    raise AssertionError('not refused')
+
+
+def try_example(day):
+    file = day.read_bytes()
+    book = credits.read(file)
+    assert credits.write(book) == file
+    plan = credits.plan(file)
+    assert credits.mark(plan) == (credits.SETTLED, 0, 0, [])
+    assert credits.listing(file) == day.with_suffix('.listing').read_text()
+    assert credits.listing(plan) == day.with_suffix('.planned.listing').read_text()
+    print(f'{day.stem:11} {book.seats:2} seats, {book.windows:2} windows: planned, {len(plan):4} bytes, mark 4')
+
+
+def try_chain():
+    """A spoilt sheet: its chains, played until the sheet is settled."""
+    file = (FOLDER / 'k08.day').read_bytes()
+    book, marks = credits.read(file), []
+    while True:
+        m = credits.mark(credits.write(book))
+        marks.append(m.mark)
+        print(f'k08 mark {m.mark}, {len(m.moves)} moves')
+        if m.mark not in (credits.IMPROVABLE, credits.TIED):
+            break
+        for window, giver, taker in m.moves:
+            print(f'  window {window} from {giver} to {taker}')
+            assert book.sheet[giver - 1][window - 1] > 0
+            assert book.sheet[taker - 1][window - 1] < book.caps[taker - 1][window - 1]
+            book.sheet[giver - 1][window - 1] -= 1
+            book.sheet[taker - 1][window - 1] += 1
+    assert marks == [credits.IMPROVABLE, credits.TIED, credits.SETTLED]
+    assert credits.mark(file).moves == [(1, 2, 1), (2, 3, 2)]
+    fair = credits.read(credits.plan(file))
+    totals = [book.total(i) for i in range(book.seats)]
+    assert totals == [1, 2, 1] == [fair.total(i) for i in range(fair.seats)]
+    print('k08 settled: totals', *totals, 'as planned')
+
+
+def try_refusals():
+    k11 = (FOLDER / 'k11.day').read_bytes()
+    for file, number, offset in ((b'', 1, 0), (k11[:-1], 6, 25), (k11 + b'\0', 6, 27)):
+        for call in (credits.read, credits.plan, credits.mark):
+            assert refusal(call, file) == (number, offset)
+        assert credits.listing(file) == f'refused {number} at {offset}\n'
+        print(f'{len(file)} bytes: refused {number} at {offset}')
+    assert refusal(credits.mark, k11) == (13, 0)
+    k08 = (FOLDER / 'k08.day').read_bytes()
+    moves = credits.buffer(credits.MOVES_MAX - 1)
+    moves[:] = [0xee] * len(moves)
+    m = credits.LIBRARY.credits_mark(k08, len(k08), moves, len(moves))
+    assert (m.refusal, m.offset, m.mark, m.moves) == (16, credits.MOVES_MAX, 0, 0)
+    assert bytes(moves) == b'\xee' * len(moves)
+    print('a buffer one byte too short: refused, untouched')
+
+
+days = sorted(FOLDER.glob('*.day'))
+assert days
+for d in days:
+    try_example(d)
+try_chain()
+try_refusals()
+print('Python: all checks passed')

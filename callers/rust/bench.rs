@@ -1,0 +1,237 @@
+//! Times the library beside plain Rust on the same files, in turn within one loop.
+//!
+//!   bench             all tables; the numbers also go to target/speed.csv
+//!   bench worst [N]   looks N seconds (60) for books that take long to plan
+//!   bench stack       how much stack each call uses
+//!
+//! Columns: "library" is the proved library, "plain Rust" a version in plain Rust that does the same: for plan the same method
+//! step by step (bench/same_method.rs), for the other calls the version of reference.rs. "other method" is the planner of
+//! reference.rs and "max flow" a planner by maximum flow and bisection (bench/max_flow.rs).
+
+use std::fmt::Write;
+use std::hint::black_box;
+
+mod books;
+mod credits;
+mod reference;
+mod rng;
+
+#[path = "bench/max_flow.rs"]
+mod max_flow;
+#[path = "bench/same_method.rs"]
+mod same_method;
+#[path = "bench/stack.rs"]
+mod stack;
+#[path = "bench/timing.rs"]
+mod timing;
+#[path = "bench/worst.rs"]
+mod worst;
+
+use books::{file_of, planned, spoilt, windows_alone, Draw, KINDS};
+use reference::{Book, Sheet};
+use rng::Rng;
+use timing::{side_by_side, Call, Times};
+
+const BOOKS: usize = 25;
+const ROUNDS: usize = 15;
+
+/// A file on which the shortest exchange path has 24 moves, the most there are.
+const LADDER: &[u8] = include_bytes!("../../examples/full-ladder.day");
+
+fn main() {
+    let arguments: Vec<String> = std::env::args().skip(1).collect();
+    match arguments.iter().map(String::as_str).collect::<Vec<_>>()[..] {
+        [] => all_tables(),
+        ["worst"] => worst::search(60),
+        ["worst", seconds] => worst::search(seconds.parse().expect("a number of seconds")),
+        ["stack"] => stack::report(),
+        _ => panic!("bench [worst [SECONDS] | stack]"),
+    }
+}
+
+fn all_tables() {
+    println!("Microseconds per call; median over {BOOKS} books of the median over {ROUNDS} rounds.");
+    println!(
+        "All calls of a line take turns on the same file. Output buffers are lent again and not cleared in between."
+    );
+    let mut csv = String::from("table,case,column,microseconds\n");
+    plan_table(&mut csv);
+    mark_table(&mut csv);
+    file_table(&mut csv);
+    growth_table(&mut csv, "seats", "plan by seats, 24 windows", (1..=8).map(|step| (4 * step, (4 * step, 24))));
+    growth_table(&mut csv, "windows", "plan by windows, 32 seats", (1..=8).map(|step| (3 * step, (32, 3 * step))));
+    std::fs::create_dir_all("target").and_then(|()| std::fs::write("target/speed.csv", csv)).expect("target/speed.csv");
+    println!("\nThe numbers are in target/speed.csv.");
+}
+
+/// A line of a table: the times, and those of the library over the plain version's.
+fn line(csv: &mut String, table: &str, case: &str, names: &[&str], times: &Times) {
+    let medians = times.medians();
+    print!("{case:34}");
+    for (name, time) in names.iter().zip(&medians) {
+        print!("{time:14.1}");
+        writeln!(csv, "{table},{case},{name},{time:.2}").expect("a string takes every line");
+    }
+    writeln!(csv, "{table},{case},longest,{:.2}", times.longest()).expect("a string takes every line");
+    println!("{:10.2}{:10.1}", medians[0] / medians[1], times.longest());
+}
+
+fn heading(table: &str, names: &[&str]) {
+    print!("\n{table:34}");
+    names.iter().for_each(|name| print!("{name:>14}"));
+    println!("{:>10}{:>10}", "ratio", "longest");
+}
+
+/// The calls that plan a file, each with its own output buffer.
+fn planners(file: &[u8]) -> Vec<Call<'_>> {
+    let call = |name, plan: fn(&[u8], &mut [u8]) -> usize| {
+        let mut out = [0; 3210];
+        Call::new(name, move || assert!(plan(black_box(file), black_box(&mut out)) > 0))
+    };
+    vec![
+        call("library", |file, out| credits::plan(file, out).unwrap()),
+        call("plain Rust", |file, out| same_method::plan(file, out).unwrap()),
+        call("other method", |file, out| reference::plan(file, out).unwrap()),
+        call("max flow", |file, out| max_flow::plan(file, out).unwrap()),
+    ]
+}
+
+fn names(calls: &[Call]) -> Vec<&'static str> {
+    calls.iter().map(|call| call.name).collect()
+}
+
+/// All planners on books of one kind and size. Max flow takes so long that fewer rounds do for it.
+fn plan_times(draw: Draw, (seats, windows): (usize, usize), with_max_flow: bool) -> Times {
+    let mut rng = Rng::new(7);
+    let mut times = Times::default();
+    for _ in 0..BOOKS {
+        let file = file_of(&draw(&mut rng, seats, windows), None);
+        let mut calls = planners(&file);
+        let mut max_flow = calls.split_off(3);
+        let mut medians = side_by_side(&mut calls, ROUNDS, 1);
+        if with_max_flow {
+            medians.extend(side_by_side(&mut max_flow, 3, 1));
+        }
+        times.add(medians);
+    }
+    times
+}
+
+fn plan_table(csv: &mut String) {
+    let names = names(&planners(&[]));
+    heading("plan, 32 seats, 24 windows", &names);
+    for (kind, draw) in KINDS {
+        line(csv, "plan", kind, &names, &plan_times(draw, (32, 24), true));
+    }
+    let mut rng = Rng::new(7);
+    let books = KINDS.iter().flat_map(|(_, draw)| (0..BOOKS).map(|_| draw(&mut rng, 32, 24)).collect::<Vec<_>>());
+    let same = books.map(|book| agree(&book)).filter(|&same| same).count();
+    println!(
+        "All four give the same totals; library and plain Rust the same cells on {same} of {} books.",
+        KINDS.len() * BOOKS
+    );
+}
+
+/// All planners must give the same totals. Says whether the library and the same method in plain Rust give the same cells.
+fn agree(book: &Book) -> bool {
+    let file = file_of(book, None);
+    let mut outs = [[0; 3210]; 4];
+    let [library, same, other, flow] = &mut outs;
+    credits::plan(&file, library).expect("a book within its bounds");
+    same_method::plan(&file, same).expect("a book within its bounds");
+    reference::plan(&file, other).expect("a book within its bounds");
+    max_flow::plan(&file, flow).expect("a book within its bounds");
+    let totals = |out: &[u8; 3210]| {
+        let sheet = reference::read(out).expect("the longest file").1.expect("a planned sheet");
+        sheet.map(|row| row.iter().map(|&cell| cell as u32).sum::<u32>())
+    };
+    assert!(outs.iter().all(|out| totals(out) == totals(&outs[0])), "the planners' totals differ");
+    outs[0] == outs[1]
+}
+
+/// Planning as books grow, a quarter filled: the number that grows, and the size of the book.
+fn growth_table(csv: &mut String, table: &str, title: &str, sizes: impl Iterator<Item = (usize, (usize, usize))>) {
+    let names = names(&planners(&[])[..3]);
+    heading(title, &names);
+    for (case, size) in sizes {
+        line(csv, table, &case.to_string(), &names, &plan_times(books::quarter, size, false));
+    }
+}
+
+/// The two markers.
+fn markers(file: &[u8]) -> Vec<Call<'_>> {
+    let call = |name, mark: fn(&[u8], &mut [u8])| {
+        let mut moves = [0; 93];
+        Call::new(name, move || mark(black_box(file), black_box(&mut moves)))
+    };
+    vec![
+        call("library", |file, moves| assert_eq!(credits::raw::mark(file, moves).refusal, 0)),
+        call("plain Rust", |file, moves| assert!(reference::mark(file, moves).is_ok())),
+    ]
+}
+
+/// A sheet with a chain, a few moves away from a settled one.
+fn nearly_settled(rng: &mut Rng, book: &Book) -> Sheet {
+    let settled = planned(book);
+    loop {
+        let sheet = spoilt(rng, book, &settled, 4, 100);
+        if reference::mark(&file_of(book, Some(&sheet)), &mut [0; 93]).unwrap().mark == 2 {
+            return sheet;
+        }
+    }
+}
+
+fn mark_table(csv: &mut String) {
+    let names = names(&markers(&[]));
+    heading("mark, 32 seats, 24 windows", &names);
+    type Hand = fn(&mut Rng, &Book) -> Sheet;
+    let sheets: [(&str, Hand); 3] = [
+        ("windows alone", |_, book| windows_alone(book, 0)),
+        ("nearly settled", nearly_settled),
+        ("planned", |_, book| planned(book)),
+    ];
+    for (sheet, hand) in sheets {
+        for (kind, draw) in KINDS {
+            let mut rng = Rng::new(11);
+            let mut times = Times::default();
+            for _ in 0..BOOKS {
+                let book = draw(&mut rng, 32, 24);
+                let file = file_of(&book, Some(&hand(&mut rng, &book)));
+                times.add(side_by_side(&mut markers(&file), ROUNDS, 8));
+            }
+            line(csv, "mark", &format!("{sheet}: {kind}"), &names, &times);
+        }
+    }
+    let mut times = Times::default();
+    times.add(side_by_side(&mut markers(LADDER), 10 * ROUNDS, 8));
+    line(csv, "mark", "chain of 24 moves", &names, &times);
+}
+
+/// Reading and writing the longest file, with a full book.
+fn file_table(csv: &mut String) {
+    let mut rng = Rng::new(13);
+    let (mut reading, mut writing) = (Times::default(), Times::default());
+    for _ in 0..BOOKS {
+        let book = books::dense(&mut rng, 32, 24);
+        let sheet = planned(&book);
+        let file = file_of(&book, Some(&sheet));
+        let same = credits::raw::read(&file).book;
+        let mut readers = [
+            Call::new("library", || assert_eq!(black_box(credits::raw::read(black_box(&file))).refusal, 0)),
+            Call::new("plain Rust", || assert!(black_box(reference::read(black_box(&file))).is_ok())),
+        ];
+        reading.add(side_by_side(&mut readers, ROUNDS, 32));
+        let (mut out, mut other) = ([0; 3210], [0; 3210]);
+        let mut writers = [
+            Call::new("library", || assert_eq!(credits::raw::write(black_box(same), black_box(&mut out)).length, 3210)),
+            Call::new("plain Rust", || {
+                assert!(reference::write(black_box(&book), Some(&sheet), black_box(&mut other)).is_ok())
+            }),
+        ];
+        writing.add(side_by_side(&mut writers, ROUNDS, 32));
+    }
+    let names = ["library", "plain Rust"];
+    heading("the longest file, 3,210 bytes", &names);
+    line(csv, "file", "read", &names, &reading);
+    line(csv, "file", "write", &names, &writing);
+}

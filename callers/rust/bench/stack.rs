@@ -1,0 +1,76 @@
+//! How much stack the calls use: each is made on a stack of its own, which is painted before and looked at afterwards.
+
+use std::arch::asm;
+
+use super::books::{file_of, planned, windows_alone, KINDS};
+use super::rng::Rng;
+use super::{credits, LADDER};
+
+const PAINT: u8 = 0xa5;
+const SIZE: usize = 256 * 1024;
+
+/// A call to be made on the painted stack, with what it takes.
+struct Task {
+    call: extern "C" fn(&mut Task),
+    file: Vec<u8>,
+    book: credits::raw::Book,
+    out: Vec<u8>,
+}
+
+const CALLS: [(&str, extern "C" fn(&mut Task)); 5] =
+    [("read", read), ("write", write), ("mark", mark), ("plan", plan), ("listing", listing)];
+
+extern "C" fn read(task: &mut Task) {
+    assert_eq!(credits::raw::read(&task.file).refusal, 0);
+}
+extern "C" fn write(task: &mut Task) {
+    assert_eq!(credits::raw::write(task.book, &mut task.out).refusal, 0);
+}
+extern "C" fn mark(task: &mut Task) {
+    assert_eq!(credits::raw::mark(&task.file, &mut task.out).refusal, 0);
+}
+extern "C" fn plan(task: &mut Task) {
+    assert_eq!(credits::raw::plan(&task.file, &mut task.out).refusal, 0);
+}
+extern "C" fn listing(task: &mut Task) {
+    assert_eq!(credits::raw::listing(&task.file, &mut task.out).refusal, 0);
+}
+
+/// The most that each call uses on full files with and without a chain, its argument or result by value included.
+pub fn report() {
+    let mut rng = Rng::new(19);
+    let mut files = vec![LADDER.to_vec()];
+    for (_, draw) in KINDS {
+        let book = draw(&mut rng, 32, 24);
+        files.extend([planned(&book), windows_alone(&book, 0)].map(|sheet| file_of(&book, Some(&sheet))));
+    }
+    for (name, call) in CALLS {
+        let most = files.iter().map(|file| used(call, file)).max().unwrap_or(0);
+        println!("{name:8} {most:6} bytes of stack");
+    }
+}
+
+/// How far down the painted stack a call reaches.
+fn used(call: extern "C" fn(&mut Task), file: &[u8]) -> usize {
+    let book = credits::raw::read(file).book;
+    let mut task = Task { call, file: file.to_vec(), book, out: vec![0; 4000] };
+    let mut stack = vec![PAINT; SIZE];
+    let top = stack.as_mut_ptr_range().end as usize & !15;
+    on_stack(top, &mut task);
+    SIZE - stack.iter().take_while(|&&byte| byte == PAINT).count()
+}
+
+/// Makes the call with the stack pointer at `top`, which is a multiple of 16.
+fn on_stack(top: usize, task: &mut Task) {
+    unsafe {
+        asm!(
+            "xchg rsp, r12",
+            "call {call}",
+            "mov rsp, r12",
+            call = in(reg) task.call,
+            in("rdi") task as *mut Task,
+            inout("r12") top => _,
+            clobber_abi("C"),
+        );
+    }
+}

@@ -1,0 +1,123 @@
+//! Random books and sheets for comparing and timing.
+#![allow(dead_code)]
+
+use super::reference::{plan, read, write, Book, Sheet, SEATS, WINDOWS};
+use super::rng::Rng;
+
+/// Draws a book with that many seats and windows.
+pub type Draw = fn(&mut Rng, usize, usize) -> Book;
+
+/// The kinds of books that are timed, by name.
+pub const KINDS: [(&str, Draw); 6] = [
+    ("dense", dense),
+    ("full caps", full_caps),
+    ("a quarter filled", quarter),
+    ("rings of two", rings),
+    ("an eighth filled", eighth),
+    ("low caps", low_caps),
+];
+
+/// Classes and supplies at random, and caps by seat and window; a seat without any gets one cap.
+fn draw(rng: &mut Rng, seats: usize, windows: usize, cap: impl Fn(&mut Rng, usize, usize) -> usize) -> Book {
+    let mut book = Book::empty(seats, windows);
+    for window in 0..windows {
+        book.supplies[window] = rng.between(0, 4095) as u16;
+    }
+    for seat in 0..seats {
+        book.classes[seat] = rng.between(1, 8) as u16;
+        for window in 0..windows {
+            book.caps[seat][window] = cap(rng, seat, window) as u16;
+        }
+        if book.caps[seat] == [0; WINDOWS] {
+            book.caps[seat][rng.below(windows)] = rng.between(1, 4095) as u16;
+        }
+    }
+    book
+}
+
+/// Any cap in every cell.
+pub fn dense(rng: &mut Rng, seats: usize, windows: usize) -> Book {
+    draw(rng, seats, windows, |rng, _, _| rng.between(0, 4095))
+}
+
+/// No cap binds.
+pub fn full_caps(rng: &mut Rng, seats: usize, windows: usize) -> Book {
+    draw(rng, seats, windows, |_, _, _| 4095)
+}
+
+/// Every cap is 0 but one in `n`.
+fn sparse(rng: &mut Rng, seats: usize, windows: usize, n: usize) -> Book {
+    draw(rng, seats, windows, |rng, _, _| if rng.once_in(n) { rng.between(0, 4095) } else { 0 })
+}
+
+pub fn quarter(rng: &mut Rng, seats: usize, windows: usize) -> Book {
+    sparse(rng, seats, windows, 4)
+}
+
+pub fn eighth(rng: &mut Rng, seats: usize, windows: usize) -> Book {
+    sparse(rng, seats, windows, 8)
+}
+
+/// Each seat uses two windows next to each other, all in one ring.
+pub fn rings(rng: &mut Rng, seats: usize, windows: usize) -> Book {
+    draw(rng, seats, windows, |rng, seat, window| {
+        let place = (window + windows - seat % windows) % windows;
+        if place < 2 {
+            rng.between(0, 4095)
+        } else {
+            0
+        }
+    })
+}
+
+/// Supplies are scarce or plenty against caps of a few credits.
+pub fn low_caps(rng: &mut Rng, seats: usize, windows: usize) -> Book {
+    let mut book = draw(rng, seats, windows, |rng, _, _| rng.between(0, 12));
+    for window in 0..windows {
+        book.supplies[window] = rng.between(0, 8 * seats) as u16;
+    }
+    book
+}
+
+/// The file of a book, with or without a sheet.
+pub fn file_of(book: &Book, sheet: Option<&Sheet>) -> Vec<u8> {
+    let mut out = [0; 3210];
+    let length = write(book, sheet, &mut out).expect("a book within its bounds");
+    out[..length].to_vec()
+}
+
+/// A settled sheet of a book.
+pub fn planned(book: &Book) -> Sheet {
+    let mut out = [0; 3210];
+    let length = plan(&file_of(book, None), &mut out).expect("a book within its bounds");
+    read(&out[..length]).expect("a planned file").1.expect("a planned sheet")
+}
+
+/// Every window handed out by itself, to seats from that one on, up to their caps.
+pub fn windows_alone(book: &Book, first: usize) -> Sheet {
+    let mut sheet = [[0; WINDOWS]; SEATS];
+    for window in 0..book.windows {
+        let mut left = book.supplies[window];
+        for step in 0..book.seats {
+            let seat = (first + step) % book.seats;
+            sheet[seat][window] = left.min(book.caps[seat][window]);
+            left -= sheet[seat][window];
+        }
+    }
+    sheet
+}
+
+/// The sheet after that many moves drawn at random, each of up to `most` credits; it stays lawful, and as wasteful as it was.
+pub fn spoilt(rng: &mut Rng, book: &Book, sheet: &Sheet, moves: usize, most: usize) -> Sheet {
+    let mut sheet = *sheet;
+    for _ in 0..moves {
+        let (window, giver, taker) = (rng.below(book.windows), rng.below(book.seats), rng.below(book.seats));
+        if giver != taker {
+            let room = book.caps[taker][window] - sheet[taker][window];
+            let credits = room.min(sheet[giver][window]).min(rng.between(1, most) as u16);
+            sheet[giver][window] -= credits;
+            sheet[taker][window] += credits;
+        }
+    }
+    sheet
+}

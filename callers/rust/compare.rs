@@ -1,0 +1,77 @@
+//! The library against the plain Rust version of reference.rs, on random and damaged files and books.
+//!
+//!   compare [N]   N files (200,000) through read, mark, plan and listing, and N books through write
+//!
+//! Output buffers of any length are compared whole, with bytes around them. What paper 01 leaves free is tested by its rules: a
+//! planned sheet is lawful, has the settled totals and gets mark 4; a chain has the right ends and the right number of moves, all
+//! of them possible, and ends in a list that is higher (mark 2) or equal (mark 3). The first difference ends the run with
+//! status 1, and what it was met with is kept under target/compare.
+
+use std::path::PathBuf;
+use std::process::ExitCode;
+
+mod books;
+mod credits;
+mod reference;
+mod rng;
+
+#[path = "compare/buffer.rs"]
+mod buffer;
+#[path = "compare/calls.rs"]
+mod calls;
+#[path = "compare/chain.rs"]
+mod chain;
+#[path = "compare/files.rs"]
+mod files;
+#[path = "compare/memory.rs"]
+mod memory;
+
+use rng::Rng;
+
+const FILES: usize = 200_000;
+
+/// What was met so far: refusals by number and marks by number.
+#[derive(Default)]
+pub struct Seen {
+    refusals: [usize; 17],
+    marks: [usize; 5],
+    longest_chain: u32,
+}
+
+fn main() -> ExitCode {
+    let number = std::env::args().nth(1).map_or(FILES, |word| word.parse().expect("a number of files"));
+    let mut rng = Rng::new(number as u64);
+    let mut seen = Seen::default();
+    for turn in 1..=number {
+        if let Err(difference) = one_turn(&mut rng, &mut seen) {
+            println!("DIFFERENCE after {turn} files: {difference}");
+            return ExitCode::FAILURE;
+        }
+        if turn % number.div_ceil(10) == 0 {
+            println!("{turn} of {number} files and as many books: no difference");
+        }
+    }
+    println!("refusals by number: {:?}", &seen.refusals[1..]);
+    println!("marks by number: {:?}, the longest chain with {} moves", &seen.marks[1..], seen.longest_chain);
+    println!("compare: {number} files and {number} books, no difference");
+    ExitCode::SUCCESS
+}
+
+/// One file through the calls that take a file, and one book through the writer.
+fn one_turn(rng: &mut Rng, seen: &mut Seen) -> Result<(), String> {
+    let file = files::draw(rng);
+    calls::all(rng, seen, &file).map_err(|difference| keep("differs.day", &file, difference))?;
+    let book = memory::draw(rng);
+    memory::write(rng, seen, &book)
+        .map_err(|difference| keep("differs.txt", format!("{book:#?}").as_bytes(), difference))
+}
+
+/// Keeps a file, and says where it is.
+fn keep(name: &str, bytes: &[u8], difference: String) -> String {
+    let folder = PathBuf::from("target/compare");
+    let path = folder.join(name);
+    match std::fs::create_dir_all(folder).and_then(|()| std::fs::write(&path, bytes)) {
+        Ok(()) => format!("{difference}; it is kept in {}", path.display()),
+        Err(error) => format!("{difference}; {} could not be written: {error}", path.display()),
+    }
+}

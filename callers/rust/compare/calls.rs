@@ -1,0 +1,162 @@
+//! The calls that take a file.
+
+use super::buffer::Buffer;
+use super::chain::{self, moves, totals, Bytes};
+use super::credits::raw;
+use super::reference::{self, feasible, Book, Layout, Refusal, Sheet, MOVES_LENGTH, SEATS, WINDOWS};
+use super::rng::Rng;
+use super::Seen;
+
+const LISTING_LENGTH: usize = 3453;
+
+/// A book with no entry at all.
+pub const NOTHING: raw::Book = raw::Book {
+    seats: 0,
+    windows: 0,
+    classes: [0; SEATS],
+    supplies: [0; WINDOWS],
+    caps: [[0; WINDOWS]; SEATS],
+    has_sheet: 0,
+    sheet: [[0; WINDOWS]; SEATS],
+};
+
+pub fn all(rng: &mut Rng, seen: &mut Seen, file: &[u8]) -> Result<(), String> {
+    read(file)?;
+    mark(rng, seen, file)?;
+    plan(rng, seen, file)?;
+    listing(rng, file)
+}
+
+/// `Err` with the name of what differs and the beginning of both values.
+pub fn same<T: PartialEq + std::fmt::Debug>(what: &str, library: T, plain: T) -> Result<(), String> {
+    if library == plain {
+        return Ok(());
+    }
+    let begin = |value: T| format!("{value:?}").chars().take(300).collect::<String>();
+    Err(format!("{what}: the library has {}, plain Rust {}", begin(library), begin(plain)))
+}
+
+/// A book in memory as the library's calls take and give it.
+pub fn raw_book(book: &Book, sheet: Option<&Sheet>) -> raw::Book {
+    raw::Book {
+        seats: book.seats,
+        windows: book.windows,
+        classes: book.classes,
+        supplies: book.supplies,
+        caps: book.caps,
+        has_sheet: sheet.is_some() as u32,
+        sheet: sheet.copied().unwrap_or(NOTHING.sheet),
+    }
+}
+
+fn read(file: &[u8]) -> Result<(), String> {
+    let plain = match reference::read(file) {
+        Ok((book, sheet)) => raw::ReadResult { refusal: 0, offset: 0, book: raw_book(&book, sheet.as_ref()) },
+        Err(refusal) => raw::ReadResult { refusal: refusal.number, offset: refusal.offset, book: NOTHING },
+    };
+    same("read", raw::read(file), plain)
+}
+
+fn mark(rng: &mut Rng, seen: &mut Seen, file: &[u8]) -> Result<(), String> {
+    let mut buffer = Buffer::of_about(rng, MOVES_LENGTH);
+    let mut twin = buffer.twin();
+    let library = raw::mark(file, buffer.lend());
+    let plain = reference::mark(file, &mut twin);
+    let (refusal, marked) = match plain {
+        Ok(marked) => (Refusal { number: 0, offset: 0 }, marked),
+        Err(refusal) => (refusal, reference::Marked::default()),
+    };
+    let reference::Marked { mark, window, seat, moves: number } = marked;
+    seen.refusals[refusal.number as usize] += 1;
+    seen.marks[mark as usize] += 1;
+    seen.longest_chain = seen.longest_chain.max(number);
+    let Refusal { number: refusal, offset } = refusal;
+    same("mark", library, raw::MarkResult { refusal, offset, mark, window, seat, moves: number })?;
+    let length = 3 * number as usize;
+    let chain = moves(buffer.front(length)?);
+    check_chain(file, mark, &chain, &moves(&twin[..length]))
+}
+
+/// A chain of the library against that of plain Rust, for a file with a sheet.
+fn check_chain(file: &[u8], mark: u32, chain: &[Bytes], right: &[Bytes]) -> Result<(), String> {
+    match reference::read(file) {
+        Ok((book, Some(sheet))) => chain::check(&book, &sheet, mark, chain, right),
+        _ => Ok(()),
+    }
+}
+
+/// What a call that writes says, by number, offset and length.
+pub fn written(plain: Result<usize, Refusal>) -> raw::WriteResult {
+    match plain {
+        Ok(length) => raw::WriteResult { refusal: 0, offset: 0, length },
+        Err(refusal) => raw::WriteResult { refusal: refusal.number, offset: refusal.offset, length: 0 },
+    }
+}
+
+fn plan(rng: &mut Rng, seen: &mut Seen, file: &[u8]) -> Result<(), String> {
+    let mut twin = [0; 3210];
+    let need = reference::plan(file, &mut twin).unwrap_or(100);
+    let mut buffer = Buffer::of_about(rng, need);
+    let library = raw::plan(file, buffer.lend());
+    let plain = written(reference::plan(file, &mut buffer.twin()));
+    seen.refusals[plain.refusal as usize] += 1;
+    same("plan", library, plain)?;
+    let planned = buffer.front(library.length)?;
+    if library.refusal == 0 {
+        check_plan(planned, &twin[..need])
+    } else {
+        Ok(())
+    }
+}
+
+/// The same file up to the sheet, which is lawful and has the same totals; and both markers give it mark 4.
+fn check_plan(planned: &[u8], plain: &[u8]) -> Result<(), String> {
+    let (Ok((book, Some(right))), Ok((_, Some(sheet)))) = (reference::read(plain), reference::read(planned)) else {
+        return Err("plan: not a file with a sheet".to_string());
+    };
+    let cells = Layout::new(book.seats, book.windows, true).sheet;
+    same("plan: bytes before the sheet", &planned[..cells], &plain[..cells])?;
+    same("plan: lawful", feasible(&book, &sheet), Ok(()))?;
+    same("plan: totals", totals(&book, &sheet), totals(&book, &right))?;
+    let settled = raw::MarkResult { refusal: 0, offset: 0, mark: 4, window: 0, seat: 0, moves: 0 };
+    same("plan: the library's mark", raw::mark(planned, &mut [0; MOVES_LENGTH]), settled)?;
+    same("plan: the mark", reference::mark(planned, &mut [0; MOVES_LENGTH]).map(|marked| marked.mark), Ok(4))
+}
+
+fn listing(rng: &mut Rng, file: &[u8]) -> Result<(), String> {
+    let mut buffer = Buffer::of_about(rng, LISTING_LENGTH);
+    let text = reference::listing(file);
+    let plain = if buffer.lend().len() < LISTING_LENGTH {
+        Err(Refusal { number: 16, offset: LISTING_LENGTH })
+    } else {
+        Ok(text.len())
+    };
+    let library = raw::listing(file, buffer.lend());
+    let front = buffer.front(library.length)?;
+    if plain.is_err() {
+        return same("listing", library, written(plain));
+    }
+    check_listing(file, &String::from_utf8_lossy(front), &String::from_utf8_lossy(&text))
+}
+
+/// The same lines up to the moves, which are those of a chain that will do.
+fn check_listing(file: &[u8], library: &str, plain: &str) -> Result<(), String> {
+    let split = |text: &str| {
+        let (moves, others): (Vec<String>, Vec<String>) =
+            text.split_inclusive('\n').map(String::from).partition(|line| line.starts_with("move "));
+        (others, moves)
+    };
+    let ((lines, moves), (right_lines, right_moves)) = (split(library), split(plain));
+    let mark = if right_lines.iter().any(|line| line == "mark 2\n") { 2 } else { 3 };
+    same("listing", &lines, &right_lines)?;
+    let moves: Option<Vec<Bytes>> = moves.iter().map(|line| move_of(line)).collect();
+    let right: Vec<Bytes> = right_moves.iter().filter_map(|line| move_of(line)).collect();
+    check_chain(file, mark, &moves.ok_or(format!("listing: {library}"))?, &right)
+}
+
+/// The move of a line `move window W from G to T`, if the line reads exactly so.
+fn move_of(line: &str) -> Option<Bytes> {
+    let numbers: Vec<u8> = line.split_whitespace().filter_map(|word| word.parse().ok()).collect();
+    let [window, giver, taker] = numbers[..] else { return None };
+    (line == format!("move window {window} from {giver} to {taker}\n")).then_some([window, giver, taker])
+}

@@ -1,0 +1,67 @@
+//! What holds of every written chain, by the rules of paper 01.
+
+use super::reference::{Book, Sheet, WEIGHTS};
+
+/// A move in three bytes: window, giver and taker, counted from 1.
+pub type Bytes = [u8; 3];
+
+/// The moves at the front of a buffer.
+pub fn moves(bytes: &[u8]) -> Vec<Bytes> {
+    bytes.chunks_exact(3).map(|triple| [triple[0], triple[1], triple[2]]).collect()
+}
+
+/// Holds a chain against one that is known to be right: same ends, same number of moves, each giver the next taker, no seat
+/// twice, all moves possible on the sheet, and in the order written; then the list is higher at mark 2 and equal at mark 3.
+pub fn check(book: &Book, sheet: &Sheet, mark: u32, chain: &[Bytes], right: &[Bytes]) -> Result<(), String> {
+    let wrong = |what: &str| Err(format!("chain {chain:?}: {what}"));
+    if chain.len() != right.len() {
+        return wrong("another number of moves");
+    }
+    let (Some(first), Some(last)) = (chain.first(), chain.last()) else { return Ok(()) };
+    if (first[2], last[1]) != (right[0][2], right[right.len() - 1][1]) {
+        return wrong("another gainer or loser");
+    }
+    if chain.windows(2).any(|pair| pair[0][1] != pair[1][2]) {
+        return wrong("a giver who is not the next taker");
+    }
+    let seats: Vec<u8> = chain.iter().map(|m| m[1]).chain([first[2]]).collect();
+    if (1..seats.len()).any(|place| seats[..place].contains(&seats[place])) {
+        return wrong("a seat twice");
+    }
+    let mut after = *sheet;
+    for m in chain {
+        if !possible(book, sheet, m) || !possible(book, &after, m) {
+            return wrong("a move that is not possible");
+        }
+        let [window, giver, taker] = m.map(|place| place as usize - 1);
+        after[giver][window] -= 1;
+        after[taker][window] += 1;
+    }
+    let (list, list_before) = (list(book, &after), list(book, sheet));
+    let fits = if mark == 2 { list > list_before } else { list == list_before };
+    if fits {
+        Ok(())
+    } else {
+        wrong("the wrong list after it")
+    }
+}
+
+fn possible(book: &Book, sheet: &Sheet, m: &Bytes) -> bool {
+    let [window, giver, taker] = m.map(|place| (place as usize).wrapping_sub(1));
+    let inside = window < book.windows && giver < book.seats && taker < book.seats;
+    inside && sheet[giver][window] > 0 && sheet[taker][window] < book.caps[taker][window]
+}
+
+/// Each seat's total.
+pub fn totals(book: &Book, sheet: &Sheet) -> Vec<u32> {
+    sheet[..book.seats].iter().map(|row| row[..book.windows].iter().map(|&cell| cell as u32).sum()).collect()
+}
+
+/// The levels, lowest first, all times 120, which is a multiple of every weight.
+fn list(book: &Book, sheet: &Sheet) -> Vec<u32> {
+    let weight = |class: u16| WEIGHTS[class as usize - 1] as u32;
+    let levels = totals(book, sheet).into_iter().zip(book.classes).map(|(total, class)| total * 120 / weight(class));
+    let mut levels: Vec<u32> = levels.collect();
+    levels.sort();
+    levels
+}

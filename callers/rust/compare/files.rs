@@ -1,0 +1,164 @@
+//! Day files: accepted ones, damaged ones and noise.
+
+use super::books::{file_of, planned, spoilt, windows_alone, KINDS};
+use super::reference::{Book, Sheet, SEATS, WINDOWS};
+use super::rng::Rng;
+
+/// A file on which the shortest chain has 24 moves, the most there are.
+const LADDER: &[u8] = include_bytes!("../../../examples/full-ladder.day");
+
+const NO_CREDITS: Sheet = [[0; WINDOWS]; SEATS];
+
+/// Values at which something changes.
+const EDGES: [u16; 16] = [0, 1, 2, 3, 4, 5, 8, 9, 24, 26, 48, 50, 64, 66, 4095, 4096];
+
+pub fn draw(rng: &mut Rng) -> Vec<u8> {
+    match rng.below(12) {
+        0 => noise(rng),
+        1..=3 => parts(rng),
+        4 | 5 => damaged(rng),
+        _ => accepted(rng),
+    }
+}
+
+/// Seats and windows of a book: few, any or all.
+pub fn size(rng: &mut Rng) -> (usize, usize) {
+    match rng.below(16) {
+        0 | 1 => (SEATS, WINDOWS),
+        2..=4 => (rng.between(1, SEATS), rng.between(1, WINDOWS)),
+        5..=7 => (rng.between(1, 8), rng.between(1, 8)),
+        _ => (rng.between(1, 4), rng.between(1, 4)),
+    }
+}
+
+pub fn book(rng: &mut Rng) -> Book {
+    let (seats, windows) = size(rng);
+    let mut book = KINDS[rng.below(KINDS.len())].1(rng, seats, windows);
+    if rng.once_in(2) {
+        // Small numbers, where levels often tie; and few classes.
+        let (most, last_class) = (rng.between(1, 6), rng.between(1, 2));
+        book.caps.iter_mut().flatten().for_each(|cap| *cap = (*cap).min(rng.between(0, most) as u16));
+        book.supplies.iter_mut().for_each(|supply| *supply %= (most * seats) as u16 + 1);
+        book.classes.iter_mut().for_each(|class| *class = (*class).min(last_class as u16));
+    }
+    book
+}
+
+/// A sheet as one may hand it in.
+fn sheet(rng: &mut Rng, book: &Book) -> Sheet {
+    let first = rng.below(book.seats);
+    match rng.below(12) {
+        0 => planned(book),
+        1 => windows_alone(book, first),
+        2 => spoilt(rng, book, &windows_alone(book, first), 100, 100),
+        3..=7 => {
+            let (moves, most) = (1 << rng.below(7), 1 << rng.below(12));
+            spoilt(rng, book, &planned(book), moves, most)
+        }
+        8 | 9 => spoilt(rng, book, &planned(book), 3, 1),
+        10 => with_other_cells(rng, book, &planned(book)),
+        _ => with_other_cells(rng, book, &NO_CREDITS),
+    }
+}
+
+/// Some cells get any number, mostly a lower one: the sheet is wasteful, or not lawful.
+fn with_other_cells(rng: &mut Rng, book: &Book, sheet: &Sheet) -> Sheet {
+    let mut sheet = *sheet;
+    for _ in 0..rng.between(1, 5) {
+        let (seat, window) = (rng.below(book.seats), rng.below(book.windows));
+        let cap = book.caps[seat][window] as usize;
+        let value = if rng.once_in(4) { rng.below(cap + 3) } else { rng.below(sheet[seat][window] as usize + 1) };
+        sheet[seat][window] = if rng.once_in(20) { rng.below(65536) } else { value } as u16;
+    }
+    sheet
+}
+
+/// A file that the reader takes, with or without a sheet.
+fn accepted(rng: &mut Rng) -> Vec<u8> {
+    if rng.once_in(1000) {
+        return LADDER.to_vec();
+    }
+    let book = book(rng);
+    let sheet = (!rng.once_in(6)).then(|| sheet(rng, &book));
+    file_of(&book, sheet.as_ref())
+}
+
+/// An accepted file with bytes flipped, fields changed, its end cut off or grown.
+fn damaged(rng: &mut Rng) -> Vec<u8> {
+    let mut file = accepted(rng);
+    for _ in 0..rng.between(1, 3) {
+        let length = file.len();
+        if length < 2 {
+            break;
+        }
+        match rng.below(6) {
+            0 => file[rng.below(length)] ^= 1 << rng.below(8),
+            1 => set_field(&mut file, 2 * rng.below(length / 2), EDGES[rng.below(EDGES.len())]),
+            2 => set_field(&mut file, 2 * rng.below(13.min(length / 2)), rng.below(65536) as u16),
+            3 => file.truncate(rng.below(length + 1)),
+            4 => file.truncate(length - rng.between(1, 2)),
+            _ => file.extend(vec![rng.below(256) as u8; rng.between(1, 3)]),
+        }
+    }
+    file
+}
+
+fn set_field(file: &mut [u8], at: usize, value: u16) {
+    file[at..at + 2].copy_from_slice(&value.to_le_bytes());
+}
+
+/// A table of contents in order, over bodies of which some are longer, shorter, odd or of values at the edge.
+fn parts(rng: &mut Rng) -> Vec<u8> {
+    let (seats, windows) = size(rng);
+    let (seats, windows) = (seats + rng.below(34) / 33, windows + rng.below(34) / 33);
+    let mut bodies = vec![fields(rng, seats, 8), fields(rng, windows, 4095)];
+    for _ in 2..rng.between(3, 4) {
+        bodies.push(fields(rng, seats * windows, 4095));
+    }
+    if rng.once_in(20) {
+        bodies.push(fields(rng, 1, 65535));
+    }
+    if rng.once_in(2) {
+        let at = rng.below(bodies.len());
+        let length = if rng.once_in(2) { bodies[at].len() + rng.between(1, 2) } else { rng.below(70) };
+        bodies[at].resize(length, 1);
+    }
+    assemble(rng, &bodies)
+}
+
+/// That many fields from 1 to `most`, one in some hundred just beyond.
+fn fields(rng: &mut Rng, number: usize, most: usize) -> Vec<u8> {
+    let bad = rng.once_in(4).then(|| rng.below(number));
+    let value = |place| if bad == Some(place) { [0, most + 1, 65535][rng.below(3)] } else { rng.between(1, most) };
+    (0..number).map(value).flat_map(|value| (value as u16).to_le_bytes()).collect()
+}
+
+/// The file of these bodies; one kind or start in some may be wrong.
+fn assemble(rng: &mut Rng, bodies: &[Vec<u8>]) -> Vec<u8> {
+    let mut start = 2 + 6 * bodies.len();
+    let mut contents = vec![bodies.len()];
+    for (place, body) in bodies.iter().enumerate() {
+        contents.extend([place + 1, start, body.len()]);
+        start += body.len();
+    }
+    if rng.once_in(8) {
+        let place = 1 + rng.below(contents.len() - 1);
+        contents[place] = rng.below(10);
+    }
+    let contents = contents.iter().flat_map(|&field| (field as u16).to_le_bytes());
+    contents.chain(bodies.iter().flatten().copied()).collect()
+}
+
+/// Any bytes, most often few; at times far more than a file has.
+fn noise(rng: &mut Rng) -> Vec<u8> {
+    let length = match rng.below(40) {
+        0 => rng.below(70_000),
+        1 => rng.below(4000),
+        _ => rng.below(60),
+    };
+    let mut file: Vec<u8> = (0..length).map(|_| rng.below(256) as u8).collect();
+    if length >= 2 && !rng.once_in(8) {
+        file[..2].copy_from_slice(&[rng.between(3, 4) as u8, 0]);
+    }
+    file
+}

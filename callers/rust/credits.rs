@@ -1,0 +1,200 @@
+//! The library's calls for Rust: slices in, `Result` out.
+//!
+//! Seats and windows count from 1 in marks and moves, as in the files, and from 0 in the arrays of a [`Book`].
+//! Link with `-L native=target/staticlib -l static=credits`, which `rt staticlib credits` builds.
+#![allow(dead_code)]
+
+use std::fmt;
+
+#[path = "credits/raw.rs"]
+pub mod raw;
+
+#[cfg(test)]
+#[path = "credits/tests.rs"]
+mod tests;
+
+/// The most seats and windows that a book has.
+pub const SEATS: usize = 32;
+pub const WINDOWS: usize = 24;
+
+/// The longest day file; a buffer of this length takes every file that [`write`] and [`plan`] make.
+pub const FILE_LENGTH: usize = 3210;
+
+/// The length that the marker asks of its buffer: 31 moves of three bytes.
+pub const MOVES_LENGTH: usize = 93;
+
+/// The length that [`listing`] asks of its buffer.
+pub const LISTING_LENGTH: usize = 3453;
+
+/// One number per seat and window.
+pub type Grid = [[u16; WINDOWS]; SEATS];
+
+/// A book in memory, with its sheet if it has one. Entries beyond `seats` and `windows` are not used; [`read`] makes them 0.
+#[derive(Clone, Debug, PartialEq, Eq)]
+pub struct Book {
+    pub seats: usize,
+    pub windows: usize,
+    pub classes: [u16; SEATS],
+    pub supplies: [u16; WINDOWS],
+    pub caps: Grid,
+    pub sheet: Option<Grid>,
+}
+
+/// Why a call turns its input away; the numbers are those of paper 01's table.
+#[derive(Clone, Copy, Debug, PartialEq, Eq)]
+#[repr(u32)]
+pub enum Reason {
+    UnderTwoBytes = 1,
+    NumberOfEntries = 2,
+    EndsWithinContents = 3,
+    Kind = 4,
+    Start = 5,
+    FileEnd = 6,
+    SeatsLength = 7,
+    WindowsLength = 8,
+    GridLength = 9,
+    Class = 10,
+    Supply = 11,
+    Cap = 12,
+    NoSheet = 13,
+    CellAboveCap = 14,
+    WindowAboveSupply = 15,
+    ShortBuffer = 16,
+}
+
+/// A reason and the offset that belongs to it. No byte of any buffer has changed.
+#[derive(Clone, Copy, Debug, PartialEq, Eq)]
+pub struct Refusal {
+    pub reason: Reason,
+    pub offset: usize,
+}
+
+/// One credit in a window, from a giver to a taker, all counted from 1.
+#[derive(Clone, Copy, Debug, PartialEq, Eq)]
+pub struct Move {
+    pub window: u8,
+    pub giver: u8,
+    pub taker: u8,
+}
+
+/// What the marker says of a lawful sheet.
+#[derive(Clone, Debug, PartialEq, Eq)]
+pub enum Mark {
+    /// Mark 1: the window has credits left while the seat is below its cap there.
+    Wasteful { window: u32, seat: u32 },
+    /// Mark 2: played in this order, the moves lead to a sheet with a higher list.
+    Improvable { chain: Vec<Move> },
+    /// Mark 3: the list is the highest, but the moves lead to the totals that the seat rule wants.
+    Tied { chain: Vec<Move> },
+    /// Mark 4.
+    Settled,
+}
+
+impl Reason {
+    const ALL: [Reason; 16] = [
+        Reason::UnderTwoBytes,
+        Reason::NumberOfEntries,
+        Reason::EndsWithinContents,
+        Reason::Kind,
+        Reason::Start,
+        Reason::FileEnd,
+        Reason::SeatsLength,
+        Reason::WindowsLength,
+        Reason::GridLength,
+        Reason::Class,
+        Reason::Supply,
+        Reason::Cap,
+        Reason::NoSheet,
+        Reason::CellAboveCap,
+        Reason::WindowAboveSupply,
+        Reason::ShortBuffer,
+    ];
+
+    /// The number in paper 01's table.
+    pub fn number(self) -> u32 {
+        self as u32
+    }
+}
+
+impl fmt::Display for Refusal {
+    fn fmt(&self, f: &mut fmt::Formatter) -> fmt::Result {
+        write!(f, "refused {} at {}", self.reason.number(), self.offset)
+    }
+}
+
+impl std::error::Error for Refusal {}
+
+impl Mark {
+    /// Marks 3 and 4 pass: the sheet's list is the highest of its book.
+    pub fn passes(&self) -> bool {
+        matches!(self, Mark::Tied { .. } | Mark::Settled)
+    }
+}
+
+/// Reads a day file.
+pub fn read(file: &[u8]) -> Result<Book, Refusal> {
+    let result = raw::read(file);
+    unless_refused(result.refusal, result.offset)?;
+    let book = result.book;
+    Ok(Book {
+        seats: book.seats,
+        windows: book.windows,
+        classes: book.classes,
+        supplies: book.supplies,
+        caps: book.caps,
+        sheet: (book.has_sheet != 0).then_some(book.sheet),
+    })
+}
+
+/// Writes the day file of a book to the front of `out` and gives its length. Bytes after it keep their values.
+pub fn write(book: &Book, out: &mut [u8]) -> Result<usize, Refusal> {
+    let raw_book = raw::Book {
+        seats: book.seats,
+        windows: book.windows,
+        classes: book.classes,
+        supplies: book.supplies,
+        caps: book.caps,
+        has_sheet: book.sheet.is_some() as u32,
+        sheet: book.sheet.unwrap_or([[0; WINDOWS]; SEATS]),
+    };
+    length(raw::write(raw_book, out))
+}
+
+/// Marks the sheet of a day file.
+pub fn mark(file: &[u8]) -> Result<Mark, Refusal> {
+    let mut moves = [0; MOVES_LENGTH];
+    let result = raw::mark(file, &mut moves);
+    unless_refused(result.refusal, result.offset)?;
+    let triples = moves.chunks_exact(3).take(result.moves as usize);
+    let chain = triples.map(|triple| Move { window: triple[0], giver: triple[1], taker: triple[2] }).collect();
+    Ok(match result.mark {
+        1 => Mark::Wasteful { window: result.window, seat: result.seat },
+        2 => Mark::Improvable { chain },
+        3 => Mark::Tied { chain },
+        _ => Mark::Settled,
+    })
+}
+
+/// Plans the book of a day file and writes the file with its planned sheet to the front of `out`; gives its length.
+pub fn plan(file: &[u8], out: &mut [u8]) -> Result<usize, Refusal> {
+    length(raw::plan(file, out))
+}
+
+/// Writes the text that the program `mark` prints of a file to the front of `out` and gives its length.
+/// A file that is turned away has a text too, so a short buffer is the only refusal.
+pub fn listing(file: &[u8], out: &mut [u8]) -> Result<usize, Refusal> {
+    length(raw::listing(file, out))
+}
+
+/// `Err` for every number but 0.
+fn unless_refused(number: u32, offset: usize) -> Result<(), Refusal> {
+    match number.checked_sub(1) {
+        None => Ok(()),
+        Some(index) => Err(Refusal { reason: Reason::ALL[index as usize], offset }),
+    }
+}
+
+fn length(result: raw::WriteResult) -> Result<usize, Refusal> {
+    unless_refused(result.refusal, result.offset)?;
+    Ok(result.length)
+}

@@ -1,0 +1,82 @@
+//! The calls as C sees them, with slices in place of pointers and lengths. All code that is not safe Rust is here.
+//!
+//! A slice is what each call asks for: a pointer that is valid for its length, and no other reference into a `&mut` one.
+
+/// A book by value. `has_sheet` is 0 where the file has no sheet, and then the sheet's cells are 0.
+#[derive(Clone, Copy, Debug, PartialEq, Eq)]
+#[repr(C)]
+pub struct Book {
+    pub seats: usize,
+    pub windows: usize,
+    pub classes: [u16; 32],
+    pub supplies: [u16; 24],
+    pub caps: [[u16; 24]; 32],
+    pub has_sheet: u32,
+    pub sheet: [[u16; 24]; 32],
+}
+
+/// Refusal 0 means none; at a refusal the book is all 0.
+#[derive(Clone, Copy, Debug, PartialEq, Eq)]
+#[repr(C)]
+pub struct ReadResult {
+    pub refusal: u32,
+    pub offset: usize,
+    pub book: Book,
+}
+
+/// Fields that a mark or a refusal does not use are 0.
+#[derive(Clone, Copy, Debug, PartialEq, Eq)]
+#[repr(C)]
+pub struct MarkResult {
+    pub refusal: u32,
+    pub offset: usize,
+    pub mark: u32,
+    pub window: u32,
+    pub seat: u32,
+    pub moves: u32,
+}
+
+/// The length of what was written; 0 at a refusal.
+#[derive(Clone, Copy, Debug, PartialEq, Eq)]
+#[repr(C)]
+pub struct WriteResult {
+    pub refusal: u32,
+    pub offset: usize,
+    pub length: usize,
+}
+
+// The sizes that include/credits.h gives these structs on a 64-bit machine.
+const _: () = assert!(size_of::<Book>() == 3208 && size_of::<ReadResult>() == 3224);
+const _: () = assert!(size_of::<MarkResult>() == 32 && size_of::<WriteResult>() == 24);
+
+mod c {
+    use super::{Book, MarkResult, ReadResult, WriteResult};
+
+    extern "C" {
+        pub fn credits_read(file: *const u8, file_len: usize) -> ReadResult;
+        pub fn credits_write(book: Book, out: *mut u8, out_len: usize) -> WriteResult;
+        pub fn credits_mark(file: *const u8, file_len: usize, moves: *mut u8, moves_len: usize) -> MarkResult;
+        pub fn credits_plan(file: *const u8, file_len: usize, out: *mut u8, out_len: usize) -> WriteResult;
+        pub fn credits_listing(file: *const u8, file_len: usize, out: *mut u8, out_len: usize) -> WriteResult;
+    }
+}
+
+pub fn read(file: &[u8]) -> ReadResult {
+    unsafe { c::credits_read(file.as_ptr(), file.len()) }
+}
+
+pub fn write(book: Book, out: &mut [u8]) -> WriteResult {
+    unsafe { c::credits_write(book, out.as_mut_ptr(), out.len()) }
+}
+
+pub fn mark(file: &[u8], moves: &mut [u8]) -> MarkResult {
+    unsafe { c::credits_mark(file.as_ptr(), file.len(), moves.as_mut_ptr(), moves.len()) }
+}
+
+pub fn plan(file: &[u8], out: &mut [u8]) -> WriteResult {
+    unsafe { c::credits_plan(file.as_ptr(), file.len(), out.as_mut_ptr(), out.len()) }
+}
+
+pub fn listing(file: &[u8], out: &mut [u8]) -> WriteResult {
+    unsafe { c::credits_listing(file.as_ptr(), file.len(), out.as_mut_ptr(), out.len()) }
+}

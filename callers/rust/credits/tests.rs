@@ -1,0 +1,176 @@
+//! The wrapper against the library: paper 01's examples, refusals, short and empty buffers, calls side by side.
+
+use super::*;
+
+/// A grid of small rows.
+fn grid(rows: &[&[u16]]) -> Grid {
+    let mut grid = [[0; WINDOWS]; SEATS];
+    for (to, from) in grid.iter_mut().zip(rows) {
+        to[..from.len()].copy_from_slice(from);
+    }
+    grid
+}
+
+/// A book of class 1 seats.
+fn book(supplies: &[u16], caps: &[&[u16]], sheet: Option<&[&[u16]]>) -> Book {
+    let mut book = Book {
+        seats: caps.len(),
+        windows: supplies.len(),
+        classes: [0; SEATS],
+        supplies: [0; WINDOWS],
+        caps: grid(caps),
+        sheet: sheet.map(grid),
+    };
+    book.classes[..caps.len()].fill(1);
+    book.supplies[..supplies.len()].copy_from_slice(supplies);
+    book
+}
+
+fn file_of(book: &Book) -> Vec<u8> {
+    let mut out = [0; FILE_LENGTH];
+    let length = write(book, &mut out).unwrap();
+    out[..length].to_vec()
+}
+
+fn planned(file: &[u8]) -> Vec<u8> {
+    let mut out = [0; FILE_LENGTH];
+    let length = plan(file, &mut out).unwrap();
+    out[..length].to_vec()
+}
+
+/// K8 with its sheet, or with another one.
+fn k8(sheet: Option<&[&[u16]]>) -> Book {
+    book(&[1, 3], &[&[1, 0], &[1, 2], &[0, 3]], sheet)
+}
+const K8_SHEET: Option<&[&[u16]]> = Some(&[&[0, 0], &[1, 0], &[0, 3]]);
+
+/// Paper 01's file K11.
+const K11: [u8; 26] = [3, 0, 1, 0, 20, 0, 2, 0, 2, 0, 22, 0, 2, 0, 3, 0, 24, 0, 2, 0, 1, 0, 3, 0, 2, 0];
+
+fn refused<T>(reason: Reason, offset: usize) -> Result<T, Refusal> {
+    Err(Refusal { reason, offset })
+}
+
+#[test]
+fn a_day_file_is_planned_and_the_plan_is_settled() {
+    let file = planned(&K11);
+    assert_eq!(file.len(), 34);
+    assert_eq!(file[..2], [4, 0]);
+    assert_eq!(file[26..], [1, 0, 3, 0, 2, 0, 2, 0]);
+    assert_eq!(mark(&file), Ok(Mark::Settled));
+    assert!(Mark::Settled.passes());
+    assert_eq!(read(&file), Ok(book(&[3], &[&[2]], Some(&[&[2]]))));
+}
+
+#[test]
+fn a_spoilt_sheet_gets_a_chain() {
+    let file = file_of(&k8(K8_SHEET));
+    let chain = vec![Move { window: 1, giver: 2, taker: 1 }, Move { window: 2, giver: 3, taker: 2 }];
+    let mut sheet = grid(K8_SHEET.unwrap());
+    assert_eq!(mark(&file), Ok(Mark::Improvable { chain: chain.clone() }));
+    for Move { window, giver, taker } in chain {
+        sheet[giver as usize - 1][window as usize - 1] -= 1;
+        sheet[taker as usize - 1][window as usize - 1] += 1;
+    }
+    let totals = |sheet: &Grid| sheet.map(|row| row.iter().sum::<u16>());
+    let settled = read(&planned(&file)).unwrap().sheet.unwrap();
+    assert_eq!(totals(&settled)[..3], [1, 2, 1]);
+    assert_eq!(totals(&sheet)[..3], [1, 1, 2]);
+    let tied = mark(&file_of(&Book { sheet: Some(sheet), ..k8(None) })).unwrap();
+    assert!(matches!(&tied, Mark::Tied { chain } if chain.len() == 1) && tied.passes());
+}
+
+#[test]
+fn marks_1_and_3() {
+    let wasteful = file_of(&book(&[3], &[&[2]], Some(&[&[1]])));
+    assert_eq!(mark(&wasteful), Ok(Mark::Wasteful { window: 1, seat: 1 }));
+    let tied = file_of(&book(&[3], &[&[3], &[3]], Some(&[&[1], &[2]])));
+    assert_eq!(mark(&tied), Ok(Mark::Tied { chain: vec![Move { window: 1, giver: 2, taker: 1 }] }));
+}
+
+#[test]
+fn files_written_read_back() {
+    let mut large = book(&[4095; WINDOWS], &[&[4095; WINDOWS][..]; SEATS], None);
+    large.classes = [8; SEATS];
+    for book in [k8(None), k8(K8_SHEET), large.clone(), Book { sheet: Some([[65535; WINDOWS]; SEATS]), ..large }] {
+        let file = file_of(&book);
+        assert_eq!(read(&file), Ok(book));
+    }
+    assert_eq!(read(&K11), Ok(book(&[3], &[&[2]], None)));
+}
+
+#[test]
+fn the_listing_of_k8() {
+    let file = file_of(&k8(K8_SHEET));
+    let mut out = [0xee; LISTING_LENGTH + 5];
+    let length = listing(&file, &mut out).unwrap();
+    let text = "seats 3 windows 2\nwindow 1 opens 0800 supply 1 placed 1\nwindow 2 opens 0825 supply 3 placed 3\n\
+                seat 1 class 1 total 0\nseat 2 class 1 total 1\nseat 3 class 1 total 3\n\
+                mark 2\nmove window 1 from 2 to 1\nmove window 2 from 3 to 2\n";
+    assert_eq!(std::str::from_utf8(&out[..length]), Ok(text));
+    assert!(out[length..].iter().all(|&byte| byte == 0xee));
+    let length = listing(&K11, &mut out).unwrap();
+    assert_eq!(&out[..length], b"refused 13 at 0\n");
+}
+
+#[test]
+fn refusals_leave_buffers_untouched() {
+    let mut out = [0xee; 4000];
+    assert_eq!(plan(&K11[..25], &mut out), refused(Reason::FileEnd, 25));
+    assert_eq!(plan(&[9, 0], &mut out), refused(Reason::NumberOfEntries, 0));
+    assert_eq!(raw::mark(&K11, &mut out).refusal, Reason::NoSheet.number());
+    let above_cap = file_of(&k8(Some(&[&[1, 0], &[1, 0], &[1, 4]])));
+    assert_eq!(raw::mark(&above_cap, &mut out).offset, 56);
+    assert_eq!(mark(&above_cap), refused(Reason::CellAboveCap, 56));
+    let above_supply = file_of(&k8(Some(&[&[1, 0], &[1, 2], &[0, 3]])));
+    assert_eq!(mark(&above_supply), refused(Reason::WindowAboveSupply, 32));
+    let mut bad = k8(None);
+    bad.classes[1] = 9;
+    assert_eq!(write(&bad, &mut out), refused(Reason::Class, 22));
+    bad.seats = 33;
+    assert_eq!(write(&bad, &mut out), refused(Reason::SeatsLength, 6));
+    assert!(out.iter().all(|&byte| byte == 0xee));
+}
+
+#[test]
+fn short_buffers() {
+    let file = file_of(&k8(K8_SHEET));
+    let mut out = [0xee; LISTING_LENGTH];
+    assert_eq!(plan(&file, &mut out[..59]), refused(Reason::ShortBuffer, 60));
+    assert_eq!(write(&k8(K8_SHEET), &mut out[..59]), refused(Reason::ShortBuffer, 60));
+    assert_eq!(write(&k8(None), &mut out[..41]), refused(Reason::ShortBuffer, 42));
+    assert_eq!(listing(&file, &mut out[..LISTING_LENGTH - 1]), refused(Reason::ShortBuffer, LISTING_LENGTH));
+    let marked = raw::mark(&file, &mut out[..MOVES_LENGTH - 1]);
+    assert_eq!((marked.refusal, marked.offset, marked.mark), (16, MOVES_LENGTH, 0));
+    assert!(out.iter().all(|&byte| byte == 0xee));
+    assert_eq!(plan(&file, &mut out[..60]), Ok(60));
+    assert_eq!(raw::mark(&file, &mut out[..MOVES_LENGTH]).mark, 2);
+}
+
+#[test]
+fn empty_input_and_empty_buffers() {
+    assert_eq!(read(&[]), refused(Reason::UnderTwoBytes, 0));
+    assert_eq!(mark(&[]), refused(Reason::UnderTwoBytes, 0));
+    assert_eq!(plan(&[], &mut []), refused(Reason::UnderTwoBytes, 0));
+    assert_eq!(listing(&[], &mut []), refused(Reason::ShortBuffer, LISTING_LENGTH));
+    assert_eq!(plan(&K11, &mut []), refused(Reason::ShortBuffer, 34));
+    assert_eq!(write(&k8(None), &mut []), refused(Reason::ShortBuffer, 42));
+    assert_eq!(read(&[]).unwrap_err().to_string(), "refused 1 at 0");
+    let nothing = raw::read(&[]).book;
+    assert_eq!((nothing.seats, nothing.windows, nothing.has_sheet), (0, 0, 0));
+    assert_eq!((nothing.caps, nothing.sheet), (grid(&[]), grid(&[])));
+}
+
+#[test]
+fn calls_side_by_side() {
+    let file = file_of(&k8(K8_SHEET));
+    let expected = planned(&file);
+    let work = || {
+        for _ in 0..2000 {
+            assert_eq!(planned(&file), expected);
+            assert_eq!(mark(&expected), Ok(Mark::Settled));
+            assert!(!mark(&file).unwrap().passes());
+        }
+    };
+    std::thread::scope(|scope| (0..4).for_each(|_| drop(scope.spawn(work))));
+}

@@ -1,0 +1,59 @@
+-- K11 of paper 01 to the byte, computed from the definitions.
+-- Assumes nothing.
+use mathlib.Core.List.{List, [], _∷_, _++_}
+use mathlib.Core.Option.{Option, none, some}
+use mathlib.Core.Path.{_≡_, refl}
+use Prim.Native.Nat.{ℕ}
+use lib.ListN.{take}
+use Rattle.fairness.specs.Leximin.{table}
+use Rattle.model.specs.Lowest.{lowest}
+use Rattle.model.specs.Book.{Book, Grid}
+use Rattle.dayfile.specs.Layout.{field, entryOf, ends, fieldsAt, gridAt, bookOf, sheetOf}
+use Rattle.dayfile.specs.File.{bytesOf, contents, bodies, fieldsOf, assemble, flat, optPart, optParts, partsOf, fileOf}
+use Rattle.dayfile.specs.Table.{refuse, kindRight, sizeRight, gridRight, outside}
+use Rattle.dayfile.specs.Table.{line1, line2, line3, line4, line5, line6, line7, line8, line9, line10, line11, line12}
+use Rattle.dayfile.specs.Table.{contentsLines, lengthLines, valueLines, optionLines, readLines}
+use Rattle.dayfile.specs.Outcome.{turnedAway, answer, readFile}
+
+-- the K10 book: supply 3; cap 2
+abbrev book : Book
+book = record { classes = 1 ∷ []; supplies = 3 ∷ []; caps = (2 ∷ []) ∷ [] }
+
+-- its planned sheet
+abbrev sheet : Option Grid
+sheet = some ((2 ∷ []) ∷ [])
+
+-- its file: 26 bytes
+abbrev k11 : List ℕ
+k11 =
+    0x03 ∷ 0x00
+    ∷ 0x01 ∷ 0x00 ∷ 0x14 ∷ 0x00 ∷ 0x02 ∷ 0x00
+    ∷ 0x02 ∷ 0x00 ∷ 0x16 ∷ 0x00 ∷ 0x02 ∷ 0x00
+    ∷ 0x03 ∷ 0x00 ∷ 0x18 ∷ 0x00 ∷ 0x02 ∷ 0x00
+    ∷ 0x01 ∷ 0x00 ∷ 0x03 ∷ 0x00 ∷ 0x02 ∷ 0x00 ∷ []
+
+-- planned: 34 bytes
+abbrev planned : List ℕ
+planned =
+    0x04 ∷ 0x00
+    ∷ 0x01 ∷ 0x00 ∷ 0x1A ∷ 0x00 ∷ 0x02 ∷ 0x00
+    ∷ 0x02 ∷ 0x00 ∷ 0x1C ∷ 0x00 ∷ 0x02 ∷ 0x00
+    ∷ 0x03 ∷ 0x00 ∷ 0x1E ∷ 0x00 ∷ 0x02 ∷ 0x00
+    ∷ 0x04 ∷ 0x00 ∷ 0x20 ∷ 0x00 ∷ 0x02 ∷ 0x00
+    ∷ 0x01 ∷ 0x00 ∷ 0x03 ∷ 0x00 ∷ 0x02 ∷ 0x00 ∷ 0x02 ∷ 0x00 ∷ []
+
+-- what is written of the book, without a sheet and with it
+pub k11-written : (fileOf book none ≡ k11) × (fileOf book sheet ≡ planned)
+unfolding fileOf partsOf optParts optPart flat assemble fieldsOf contents bodies bytesOf
+k11-written = (refl, refl)
+
+-- what the two files say; K11 less its last byte is refusal 6 at 25, and so is one byte more, at 27
+pub k11-read :
+    (readFile k11 ≡ answer (book, none))
+    × (readFile planned ≡ answer (book, sheet))
+    × (readFile (take 25 k11) ≡ turnedAway (refuse 6 25))
+    × (readFile (k11 ++ (0x00 ∷ [])) ≡ turnedAway (refuse 6 27))
+unfolding readFile readLines contentsLines lengthLines valueLines optionLines
+    line1 line2 line3 line4 line5 line6 line7 line8 line9 line10 line11 line12
+    lowest kindRight sizeRight gridRight outside field ends entryOf bookOf sheetOf fieldsAt gridAt table
+k11-read = (refl, refl, refl, refl)

@@ -1,0 +1,4 @@
+-- Laws that several proofs cite.
+pub mod Columns
+pub mod Filling
+pub mod Feasible

@@ -1,0 +1,49 @@
+-- Windows filled: no credit is left of a window while a seat is below its cap there.
+use mathlib.Core.Path.{_≡_}
+use mathlib.Core.Logic.{_≢_}
+use mathlib.Core.List.{List}
+use Prim.Native.Nat.{ℕ, min, _≤_, _<_}
+use lib.ListN.{getD}
+use Rattle.fairness.specs.Sums.{sum}
+use Rattle.fairness.specs.Instance.{Instance, Sheet, Feasible, Wasteful}
+use Rattle.model.specs.Book.{Grid, cell, Shaped}
+
+-- the instance I has n seats, m windows, these caps and these supplies; what the grid of caps holds outside n × m does not count
+pub record Has (n m : ℕ) (caps : Grid) (supplies : List ℕ) (I : Instance) : Type 0 where
+  pub seats : I .seats ≡ n
+  pub windows : I .windows ≡ m
+  pub cap : (i j : ℕ) → i < n → j < m → I .cap i j ≡ cell caps i j
+  pub supply : (j : ℕ) → j < m → I .supply j ≡ getD supplies j 0
+
+-- feasible, with nothing wasted
+pub record Full (I : Instance) (S : Sheet) : Type 0 where
+  pub feasible : Feasible I S
+  pub unwasted : Wasteful I S → ⊥
+
+-- ---- one window j of n seats
+
+-- no cell is above its cap, and all together are not above the supply
+pub record FeasibleAt (n j : ℕ) (caps : Grid) (supply : ℕ) (g : Grid) : Type 0 where
+  pub within : (i : ℕ) → i < n → cell g i j ≤ cell caps i j
+  pub fits : sum n (λ i. cell g i j) ≤ supply
+
+-- .. and all together are the supply, or all caps where these are less
+pub record FullAt (n j : ℕ) (caps : Grid) (supply : ℕ) (g : Grid) : Type 0 where
+  pub within : (i : ℕ) → i < n → cell g i j ≤ cell caps i j
+  pub placed : sum n (λ i. cell g i j) ≡ min supply (sum n (λ i. cell caps i j))
+
+-- r is the grid g with window j filled
+pub record Handed (n j : ℕ) (caps : Grid) (supply : ℕ) (g r : Grid) : Type 0 where
+  pub shape : Shaped 32 24 r
+  pub full : FullAt n j caps supply r
+  pub past : (i k : ℕ) → n ≤ i → cell r i k ≡ cell g i k
+  pub others : (i k : ℕ) → k ≢ j → cell r i k ≡ cell g i k
+
+-- ---- m windows of n seats
+
+-- r is the grid g with every window filled
+pub record Filled (n m : ℕ) (caps : Grid) (supplies : List ℕ) (g r : Grid) : Type 0 where
+  pub shape : Shaped 32 24 r
+  pub full : (j : ℕ) → j < m → FullAt n j caps (getD supplies j 0) r
+  pub past-seats : (i j : ℕ) → n ≤ i → cell r i j ≡ cell g i j
+  pub past-windows : (i j : ℕ) → m ≤ j → cell r i j ≡ cell g i j

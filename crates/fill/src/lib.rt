@@ -1,0 +1,74 @@
+// Free credits handed out: window by window, seat by seat, up to the caps.
+ghost use mathlib.Core.Path.{_≡_};
+ghost use Prim.Native.Nat.{ℕ, min, _+_, _-_, _≤_, _<_};
+ghost use lib.ListN.{getD};
+ghost use Rattle.fairness.specs.Sums.{sum};
+ghost use Rattle.model.specs.Book.{cell, Shaped};
+ghost use Rattle.fill.specs.Fills.{FeasibleAt, Handed, Filled};
+
+pub fn lesser(a: u16, b: u16) -> u16
+    ensures { λ r. ⌜ r ≡ min a b ⌝ }
+{
+    if a < b { a } else { b }
+}
+
+// How far a cell is below its cap. So many more never overflow it.
+pub fn room(cell: u16, cap: u16) -> u16
+    ensures { λ r. ⌜ (r ≡ cap - cell) × (cell + r ≤ 65535) ⌝ }
+{
+    if cell < cap { cap - cell } else { 0 }
+}
+
+// What is left of a window's supply.
+fn left_in(grid: &[[u16; 24]; 32], seats: usize, window: usize, supply: u16) -> u16
+    requires { ⌜ (seats ≤ 32) × (window < 24) ⌝ }
+    requires { ⌜ sum seats (λ i. cell (now grid) i window) ≤ supply ⌝ }
+    ensures { λ r. ⌜ sum seats (λ i. cell (now (grid .entry)) i window) + r ≡ supply ⌝ }
+{
+    let mut left = supply;
+    for k in 0..seats {
+        left -= grid[k][window];
+    }
+    left
+}
+
+// Hands out what is left of a window's supply, seat by seat up to each cap.
+fn fill_window(
+    grid: &mut [[u16; 24]; 32],
+    caps: &[[u16; 24]; 32],
+    seats: usize,
+    window: usize,
+    supply: u16,
+)
+    requires { ⌜ (seats ≤ 32) × (window < 24) ⌝ }
+    requires { ⌜ Shaped 32 24 (now grid) ⌝ }
+    requires { ⌜ FeasibleAt seats window (now caps) supply (now grid) ⌝ }
+    ensures { λ _. ⌜ Handed seats window (now (caps .entry)) supply (now (grid .entry)) (now (grid .exit)) ⌝ }
+{
+    let mut left = left_in(grid, seats, window, supply);
+    for i in 0..seats {
+        let cell = grid[i][window];
+        let more = lesser(left, room(cell, caps[i][window]));
+        grid[i][window] = cell + more;
+        left -= more;
+    }
+}
+
+// Hands out all free credits.
+pub fn fill(
+    grid: [[u16; 24]; 32],
+    caps: &[[u16; 24]; 32],
+    supplies: [u16; 24],
+    seats: usize,
+    windows: usize,
+) -> [[u16; 24]; 32]
+    requires { ⌜ (seats ≤ 32) × (windows ≤ 24) ⌝ }
+    requires { ⌜ ((j : ℕ) → j < windows → FeasibleAt seats j (now caps) (getD supplies j 0) grid) ⌝ }
+    ensures { λ r. ⌜ Filled seats windows (now (caps .entry)) supplies grid r ⌝ }
+{
+    let mut filled = grid;
+    for w in 0..windows {
+        fill_window(&mut filled, caps, seats, w, supplies[w]);
+    }
+    filled
+}

@@ -1,0 +1,120 @@
+/* credits.h: libcredits shares out message credits fairly by trading window.
+ *
+ * A day file holds a book (the seats' classes, the windows' supplies, a cap for each seat in each window) and perhaps a sheet (credits
+ * for each seat in each window). The calls read one, write one, mark its sheet, plan the fairest sheet, and list it as text. What each
+ * call does is proved for every file, every book and every buffer; the contracts are in crates/credits/specs/Numbers.antt.
+ *
+ * What a caller owes, for every call:
+ *   - A pointer points to as many bytes as the length after it says. They may be read, and written where it is not const. With length 0
+ *     it may be NULL.
+ *   - The bytes that a call writes overlap nothing that it reads.
+ *   - 32 KB of stack.
+ * Nothing else is asked: any bytes may be handed in as a file, and any numbers as a book. Every call ends. None allocates, prints or stops
+ * the program. Results have padding, so they are to be compared field by field.
+ *
+ * Threads: the library has no global state. Calls may run at once where none writes what another reads or writes.
+ */
+#ifndef CREDITS_H
+#define CREDITS_H
+
+#include <stddef.h>
+#include <stdint.h>
+
+#ifdef __cplusplus
+extern "C" {
+#endif
+
+#define CREDITS_SEATS 32         /* the most seats */
+#define CREDITS_WINDOWS 24       /* the most windows */
+#define CREDITS_FILE_MAX 3210    /* the longest day file, in bytes: room for any file that is planned or written */
+#define CREDITS_MOVES_MAX 93     /* what credits_mark asks of its buffer, in bytes */
+#define CREDITS_LISTING_MAX 3453 /* what credits_listing asks of its buffer, in bytes */
+
+/* Why a call refused, and the offset that it gives. Checks run in this order; within one the lowest offset counts. */
+enum {
+    CREDITS_OK = 0,
+    CREDITS_REFUSED_SHORT = 1,          /* under 2 bytes                                        file length */
+    CREDITS_REFUSED_ENTRIES = 2,        /* entries not 3 or 4                                   0 */
+    CREDITS_REFUSED_CONTENTS = 3,       /* file ends within the contents                        file length */
+    CREDITS_REFUSED_KIND = 4,           /* kinds not 1, 2, 3, (4) in order                      that kind field */
+    CREDITS_REFUSED_START = 5,          /* start not where the part before ends                 that start field */
+    CREDITS_REFUSED_END = 6,            /* last body does not end at the file's end             file length */
+    CREDITS_REFUSED_SEATS = 7,          /* seats: not 2 to 64 bytes, or odd                     that length field */
+    CREDITS_REFUSED_WINDOWS = 8,        /* windows: not 2 to 48 bytes, or odd                   that length field */
+    CREDITS_REFUSED_GRID = 9,           /* caps or sheet: not 2 x seats x windows bytes         that length field */
+    CREDITS_REFUSED_CLASS = 10,         /* class not 1 to 8                                     that class */
+    CREDITS_REFUSED_SUPPLY = 11,        /* supply above 4,095                                   that supply */
+    CREDITS_REFUSED_CAP = 12,           /* cap above 4,095                                      that cap */
+    CREDITS_REFUSED_NO_SHEET = 13,      /* mark: no sheet                                       0 */
+    CREDITS_REFUSED_ABOVE_CAP = 14,     /* mark: cell above its cap                             that cell */
+    CREDITS_REFUSED_ABOVE_SUPPLY = 15,  /* mark: window's cells above its supply                that supply */
+    CREDITS_REFUSED_BUFFER = 16         /* the buffer is too short                              length needed */
+};
+
+/* Marks. Tied and settled sheets pass. */
+enum {
+    CREDITS_WASTEFUL = 1,   /* a window has credits left while a seat is below its cap there */
+    CREDITS_IMPROVABLE = 2, /* a chain of moves makes the sheet fairer */
+    CREDITS_TIED = 3,       /* as fair as can be, but a tie goes against the seat rule */
+    CREDITS_SETTLED = 4     /* as fair as can be, and every tie goes by the seat rule */
+};
+
+/* A book in memory. Seats and windows count from 0 here; a cap or a credit is at [seat][window]. What credits_read gives has 0 in every
+ * place that is not used; credits_write looks at used places only. */
+typedef struct {
+    size_t seats;
+    size_t windows;
+    uint16_t classes[CREDITS_SEATS];
+    uint16_t supplies[CREDITS_WINDOWS];
+    uint16_t caps[CREDITS_SEATS][CREDITS_WINDOWS];
+    uint32_t has_sheet; /* 0: there is no sheet; credits_read says 1 where there is one */
+    uint16_t sheet[CREDITS_SEATS][CREDITS_WINDOWS];
+} credits_book;
+
+/* In each result: refusal 0 and offset 0 where the call did its work. At a refusal the other fields are all 0. */
+typedef struct {
+    uint32_t refusal;
+    size_t offset;
+    credits_book book;
+} credits_read_result;
+
+typedef struct {
+    uint32_t refusal;
+    size_t offset;
+    size_t length; /* of what now stands at the front of the buffer */
+} credits_write_result;
+
+/* Windows and seats count from 1 here and in the moves; fields that a mark does not use are 0. */
+typedef struct {
+    uint32_t refusal;
+    size_t offset;
+    uint32_t mark;
+    uint32_t window; /* mark 1: the lowest window with credits left for a seat */
+    uint32_t seat;   /* mark 1: the lowest seat below its cap there */
+    uint32_t moves;  /* marks 2 and 3: how many moves the chain has */
+} credits_mark_result;
+
+/* At a refusal no byte of a buffer changes. The bytes after what a call writes keep their values. */
+
+/* The book and the sheet of a day file. Refusals 1 to 12. */
+credits_read_result credits_read(const uint8_t *file, size_t file_len);
+
+/* The day file of a book, to the front of `out`. Refusals 7, 8, 10, 11, 12 (with offsets in the file that would be written) and 16. */
+credits_write_result credits_write(credits_book book, uint8_t *out, size_t out_len);
+
+/* The mark of the sheet in a day file. Marks 2 and 3 write a chain to the front of `moves`: three bytes for each move, window, giver,
+ * taker. Refusals 1 to 16. */
+credits_mark_result credits_mark(const uint8_t *file, size_t file_len, uint8_t *moves, size_t moves_len);
+
+/* The same day file with a settled sheet, to the front of `out`. A sheet that the file holds is ignored. Refusals 1 to 12 and 16. */
+credits_write_result credits_plan(const uint8_t *file, size_t file_len, uint8_t *out, size_t out_len);
+
+/* A day file and its mark as text, to the front of `out`; there is no 0 byte at the end. For a file that credits_mark refuses the text is
+ * "refused N at P". The only refusal is 16. */
+credits_write_result credits_listing(const uint8_t *file, size_t file_len, uint8_t *out, size_t out_len);
+
+#ifdef __cplusplus
+}
+#endif
+
+#endif
