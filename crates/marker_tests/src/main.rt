@@ -76,60 +76,35 @@ fn other_marks() {
     case(b"K10 sheet 2", b"1", b"3", b"2", b"2");
 }
 
-// Lines 13 to 15, each with a neighbour that is taken.
-fn turned_away() {
+// Line 13, and a neighbour that is taken.
+fn missing_sheet() {
     case(b"no sheet", b"1", b"3", b"2", b"");
     case(b"a sheet", b"1", b"3", b"2", b"2");
-    case(
-        b"a cell above its cap",
-        b"1 / 1",
-        b"5,5",
-        b"2,2 / 2,2",
-        b"2,2 / 2,3",
-    );
-    case(
-        b"all cells at their caps",
-        b"1 / 1",
-        b"5,5",
-        b"2,2 / 2,2",
-        b"2,2 / 2,2",
-    );
-    case(
-        b"a window above its supply",
-        b"1 / 1",
-        b"4,3",
-        b"2,2 / 2,2",
-        b"2,2 / 2,2",
-    );
-    case(
-        b"all windows at their supplies",
-        b"1 / 1",
-        b"4,4",
-        b"2,2 / 2,2",
-        b"2,2 / 2,2",
-    );
 }
 
-// Line 16, with K2.
+// A sheet of a book whose caps are all 2.
+fn case_of_twos(name: &[u8], supplies: &[u8], sheet: &[u8]) {
+    case(name, b"1 / 1", supplies, b"2,2 / 2,2", sheet);
+}
+
+// Lines 14 and 15, each with a neighbour that is taken.
+fn too_many_credits() {
+    case_of_twos(b"a cell above its cap", b"5,5", b"2,2 / 2,3");
+    case_of_twos(b"all cells at their caps", b"5,5", b"2,2 / 2,2");
+    case_of_twos(b"a window above its supply", b"4,3", b"2,2 / 2,2");
+    case_of_twos(b"all windows at their supplies", b"4,4", b"2,2 / 2,2");
+}
+
+fn mark_k2(name: &[u8], moves: &mut [u8]) {
+    mark_texts(name, b"1 / 1", b"4,4", b"4,0 / 4,4", b"2,0 / 2,4", moves);
+}
+
+// Line 16, and a neighbour that is taken.
 fn buffers() {
     let mut short = [255u8; 92];
-    mark_texts(
-        b"a buffer of 92 bytes",
-        b"1 / 1",
-        b"4,4",
-        b"4,0 / 4,4",
-        b"2,0 / 2,4",
-        &mut short,
-    );
+    mark_k2(b"a buffer of 92 bytes", &mut short);
     let mut enough = [255u8; 93];
-    mark_texts(
-        b"a buffer of 93 bytes",
-        b"1 / 1",
-        b"4,4",
-        b"4,0 / 4,4",
-        b"2,0 / 2,4",
-        &mut enough,
-    );
+    mark_k2(b"a buffer of 93 bytes", &mut enough);
 }
 
 // A ladder of 25 seats, where neighbours share a window.
@@ -175,7 +150,8 @@ fn ladder() {
 fn main() {
     improvable();
     other_marks();
-    turned_away();
+    missing_sheet();
+    too_many_credits();
     buffers();
     ladder();
 }
