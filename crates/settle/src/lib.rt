@@ -1,8 +1,8 @@
-// From any feasible sheet to a settled one of the same book.
+// From a sheet that is feasible and not wasteful to a settled one of the same book.
 ghost use mathlib.Core.Path.{_≡_};
 ghost use Prim.Native.Nat.{ℕ};
 ghost use lib.ListN.{length};
-ghost use Rattle.fairness.specs.Instance.{Instance, Feasible};
+ghost use Rattle.fairness.specs.Instance.{Instance};
 ghost use Rattle.fairness.specs.Exchange.{playAll, Settled};
 ghost use Rattle.sheet.specs.Sheets.{credit};
 ghost use Rattle.exchange.specs.Search.{movesOf};
@@ -15,17 +15,6 @@ use exchange::Route;
 use exchange::Rule;
 use sheet::Sheet;
 use terms::Terms;
-
-// All free credits handed out.
-pub fn fill_free(sheet: Sheet, caps: [[u16; 24]; 32], t: Terms) -> Sheet
-    requires { ⌜ Small t caps ⌝ }
-    requires { ⌜ Feasible (instanceIn t caps) (credit sheet) ⌝ }
-    ensures { λ r. ⌜ ((I : Instance) → Told I t caps → Full I (credit r)) ⌝ }
-{
-    let supplies = t.supplies;
-    let filled = fill::fill(sheet.to_grid(), &caps, supplies, t.seats, t.windows);
-    Sheet::from_grid(filled)
-}
 
 // The sheet after the moves of a route, played one after another.
 pub fn play_route(sheet: Sheet, route: Route) -> Sheet
@@ -60,13 +49,13 @@ pub fn next(sheet: Sheet, caps: [[u16; 24]; 32], t: Terms) -> Exchange
     exchange::search_graph(Rule::TiesWrongly, scores, graph, seats)
 }
 
-// A settled sheet of the same book: free credits are handed out, and exchanges played until none is left.
+// A settled sheet of the same book: exchanges are played until none is left.
 pub fn settle(sheet: Sheet, caps: [[u16; 24]; 32], t: Terms) -> Sheet
     requires { ⌜ Small t caps ⌝ }
-    requires { ⌜ Feasible (instanceIn t caps) (credit sheet) ⌝ }
+    requires { ⌜ Full (instanceIn t caps) (credit sheet) ⌝ }
     ensures { λ r. ⌜ ((I : Instance) → Told I t caps → Settled I (credit r)) ⌝ }
 {
-    let mut settled = fill_free(sheet, caps, t);
+    let mut settled = sheet;
     loop {
         let exchange = next(settled, caps, t);
         if exchange.found {

@@ -138,7 +138,10 @@ pub(crate) fn choose(residual: &Residual, phase: Phase, set: u32) -> Augmentatio
     let receiver = best(Role::Receiver, residual, set, lowest(set));
     let tree = grow(residual, phase.windows, receiver);
     let donor = best(Role::Donor, residual, tree.set, receiver);
-    let amount = affordable(next_credit(residual, receiver), next_credit(residual, donor));
+    let amount = affordable(
+        next_credit(residual, receiver),
+        next_credit(residual, donor),
+    );
     if amount < phase.unit {
         return Augmentation {
             receiver,

@@ -16,13 +16,7 @@ use sheet::Caps;
 use terms::Terms;
 
 // One augmentation: the lowest receiver that is active takes from the highest donor that it reaches. Returns who is active after it.
-fn turn(
-    grid: &mut Caps,
-    residual: &mut Residual,
-    caps: &Caps,
-    phase: Phase,
-    active: u32,
-) -> u32
+fn turn(grid: &mut Caps, residual: &mut Residual, caps: &Caps, phase: Phase, active: u32) -> u32
     requires { ⌜ (phase .seats ≤ 32) × (phase .windows ≤ 24) ⌝ }
     requires { ⌜ 0 < active ⌝ }
     ensures { λ _. ⌜ Keeps (phase .seats) (phase .windows) (now (caps .entry)) (now (grid .entry)) (now (grid .exit)) ⌝ }

@@ -12,10 +12,13 @@ pub(crate) type Residual = [[u32; 32]; 5];
 
 // For each window the set of seats that can take there, and of those that can give.
 pub(crate) const TAKERS: usize = 0;
+
 pub(crate) const GIVERS: usize = 1;
 // For each seat its height, which is its base and its total; its weight; and its place in the order of the seat rule.
 pub(crate) const HEIGHTS: usize = 2;
+
 pub(crate) const WEIGHTS: usize = 3;
+
 pub(crate) const POSITIONS: usize = 4;
 
 // A phase of capacity scaling: only room for `unit` credits counts, and only `unit` credits held.
@@ -37,14 +40,7 @@ fn with(set: u32, seat: usize, on: bool) -> u32
 }
 
 // Notes whether a seat can take and whether it can give in a window.
-fn note(
-    residual: &mut Residual,
-    grid: &Caps,
-    caps: &Caps,
-    unit: u16,
-    seat: usize,
-    window: usize,
-)
+fn note(residual: &mut Residual, grid: &Caps, caps: &Caps, unit: u16, seat: usize, window: usize)
     requires { ⌜ (seat < 32) × (window < 24) ⌝ }
 {
     let cell = grid[seat][window];
