@@ -9,7 +9,7 @@ use native.Mathlib.Omega.{arith}
 use lib.Dec.{ltb}
 use lib.ListN.{length, getD}
 use borrow.Author.Tests.{lt-ltb, le-ltb}
-use Rattle.fairness.specs.Instance.{Instance, Feasible}
+use Rattle.fairness.specs.Instance.{Instance}
 use Rattle.fairness.specs.Exchange.{Settled}
 use Rattle.model.specs.Book.{Book, Grid, SheetOf, cell, seats, windows, instanceOf}
 use Rattle.model.proofs.Agree.{agree-settled}
@@ -30,8 +30,7 @@ use Rattle.sheet.specs.declared.Sheet.{Sheet}
 use Rattle.sheet.specs.Sheets.{credit, gridOf}
 use Rattle.sheet.proofs.Cells.{credit-is}
 use Rattle.terms.specs.declared.Terms.{Terms}
-use Rattle.terms.specs.Terms.{instanceIn, Told, Ranged, Small}
-use Rattle.greedy.specs.Starts.{Started}
+use Rattle.terms.specs.Terms.{Told, Ranged, Small}
 use Rattle.planner.specs.Planning.{planFile, Planned, Plans}
 
 -- an accepted file's book is in paper 01's ranges
@@ -146,13 +145,6 @@ small-caps b t caps fit told ranged =
       caps-most = λ i j li lj.
           omega (arith, told .caps-are i j li lj, fit .cap-high i j (omega (arith, told .seats-are)) (omega (arith, told .windows-are)));
     }
-
--- the start is feasible, as the instance that is in memory sees it
-pub start-feasible : (t : Terms) (caps start : Grid) (sheet : Sheet) → Started (t .seats) (t .windows) caps (t .supplies) start →
-    gridOf sheet ≡ start → Feasible (instanceIn t caps) (credit sheet)
-start-feasible t caps start sheet started same =
-    rw (credit-is sheet, same)
-    (started .feasible (instanceIn t caps) (record { seats = refl; windows = refl; cap = λ i j li lj. refl; supply = λ j lj. refl }))
 
 -- the end as a grid
 pub settled-grid : (I : Instance) (sheet : Sheet) (r : Grid) → r ≡ gridOf sheet → Settled I (credit sheet) → Settled I (cell r)

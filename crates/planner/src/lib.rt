@@ -8,7 +8,6 @@ ghost use lib.ListN.{length};
 use dayfile::Book;
 use dayfile::Check;
 use dayfile::Written;
-use sheet::Sheet;
 
 // Where the planner turns a file away, with an output buffer of `room` bytes.
 pub fn plan_check(file: &[u8], room: usize) -> Check
@@ -28,17 +27,13 @@ pub fn plan_check(file: &[u8], room: usize) -> Check
     Check::Sound
 }
 
-// A settled sheet of a book in memory. The start is nearly always settled already; that the end is settled, settling alone shows.
+// A settled sheet of a book in memory.
 fn planned_sheet(book: Book, caps: [[u16; 24]; 32]) -> [[u16; 24]; 32]
     requires { ⌜ Holding book caps ⌝ }
     ensures { λ r. ⌜ SettledIn book caps r ⌝ }
 {
     let terms = bookterms::terms_of(book);
-    let supplies = terms.supplies;
-    let weights = terms.weights;
-    let bases = terms.bases;
-    let start = greedy::start(terms.seats, terms.windows, caps, supplies, weights, bases);
-    let settled = settle::settle(Sheet::from_grid(start), caps, terms);
+    let settled = engine::settled(terms, caps);
     settled.to_grid()
 }
 
