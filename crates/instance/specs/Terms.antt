@@ -1,4 +1,4 @@
--- What a book's numbers in memory say, and how large they may be.
+-- The one relation between an instance of the crate `fairness` and memory, that of a sheet, and how large the numbers may be.
 use mathlib.Core.Path.{_≡_}
 use Prim.Native.Nat.{ℕ, _≤_, _<_}
 use lib.ListN.{getD}
@@ -6,9 +6,9 @@ use Rattle.fairness.specs.Instance.{Instance}
 use Rattle.model.specs.Book.{Grid, cell}
 use Rattle.sheet.specs.declared.Sheet.{Sheet}
 use Rattle.sheet.specs.Sheets.{credit}
-use Rattle.terms.specs.declared.Terms.{Terms}
+use Rattle.instance.specs.declared.Terms.{Terms}
 
--- the instance that the numbers and the caps are, of the crate `fairness`
+-- the instance that the numbers and the caps in memory are
 abbrev pub instanceIn : Terms → Grid → Instance
 instanceIn t caps =
     record {
@@ -21,7 +21,7 @@ instanceIn t caps =
       position = λ i. getD (t .positions) i 0;
     }
 
--- the used numbers are those of an instance, which may have any others where nothing is used
+-- the used numbers in memory are those of an instance; only used entries count
 pub record Told (I : Instance) (t : Terms) (caps : Grid) : Type 0 where
   pub seats-are : I .seats ≡ t .seats
   pub windows-are : I .windows ≡ t .windows
@@ -42,14 +42,10 @@ pub record Ranged (t : Terms) : Type 0 where
   pub supplies-most : (j : ℕ) → j < t .windows → getD (t .supplies) j 0 ≤ 4095
   pub weights-least : (i : ℕ) → i < t .seats → 1 ≤ getD (t .weights) i 0
   pub weights-most : (i : ℕ) → i < t .seats → getD (t .weights) i 0 ≤ 1000
-  pub bases-most : (i : ℕ) → i < t .seats → getD (t .bases) i 0 ≤ 50000
+  pub bases-most : (i : ℕ) → i < t .seats → getD (t .bases) i 0 ≤ 100000
   pub positions-differ : (i k : ℕ) → i < t .seats → k < t .seats → getD (t .positions) i 0 ≡ getD (t .positions) k 0 → i ≡ k
 
 -- the same with the caps
 pub record Small (t : Terms) (caps : Grid) : Type 0 where
   pub ranged : Ranged t
   pub caps-most : (i j : ℕ) → i < t .seats → j < t .windows → cell caps i j ≤ 4095
-
--- no used cell is above 4,095
-abbrev pub Counted : Terms → Sheet → Type 0
-Counted t sheet = (i j : ℕ) → i < t .seats → j < t .windows → credit sheet i j ≤ 4095

@@ -1,4 +1,4 @@
--- `bookterms::terms_of` meets its contract. Each turn works out one seat's weight and place.
+-- `bookinstance::terms_of` meets its contract. Each turn works out one seat's weight and place.
 use borrow.Author.Needs.{needs}
 use mathlib.Core.Path.{refl}
 use Prim.Native.Nat.{_-_}
