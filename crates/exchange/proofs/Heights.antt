@@ -1,5 +1,5 @@
--- A loop that works out each seat's height.
-use mathlib.Core.Path.{_≡_, ap, _∙_}
+-- A loop that works out each seat's height, and the scores that it makes. Assumes nothing.
+use mathlib.Core.Path.{_≡_, ap, sym, _∙_}
 use mathlib.Core.List.{List}
 use Prim.Native.Nat.{ℕ, _+_, _≤_, _<_}
 use native.Mathlib.Decide.{ℕ-discrete}
@@ -7,16 +7,17 @@ use native.Mathlib.Omega.{arith}
 use lib.ListN.{length, getD, set, length-set}
 use lib.Seq.{getD-set-same, getD-set-other}
 use Rattle.fairness.specs.Sums.{sum}
-use Rattle.fairness.specs.Instance.{Instance}
+use Rattle.fairness.specs.Instance.{Instance, Feasible}
 use Rattle.fairness.proofs.Sums.{sum-eq}
 use Rattle.model.specs.Book.{Grid}
 use Rattle.sheet.specs.declared.Sheet.{Sheet}
 use Rattle.sheet.specs.Sheets.{credit}
 use Rattle.sheet.proofs.Sums.{sum-bound}
+use Rattle.instance.specs.declared.Terms.{Terms}
+use Rattle.instance.specs.Terms.{instanceIn, Told, Shows, Small}
+use Rattle.instance.proofs.Told.{feasible-small}
 use Rattle.exchange.specs.declared.Scores.{Scores}
-use Rattle.exchange.specs.Held.{Scored, Bounded}
-use Rattle.terms.specs.declared.Terms.{Terms}
-use Rattle.terms.specs.Terms.{Told, Ranged, Shows, Counted}
+use Rattle.exchange.specs.Tests.{Scored, Bounded}
 
 module _ (sheet : Sheet) (seats windows : ℕ) (bases : List ℕ) where
   -- what seat i's height is to be
@@ -42,26 +43,27 @@ module _ (sheet : Sheet) (seats windows : ℕ) (bases : List ℕ) where
     ];
   }
 
-module _ (sheet : Sheet) (t : Terms) (k : ℕ) (hs : List ℕ) (l : t .seats ≤ k)
-    (known : Known sheet (t .seats) (t .windows) (t .bases) k hs) where
-  abbrev scores : Scores
-  scores = record { heights = hs; weights = t .weights; positions = t .positions }
+pub scored : (sheet : Sheet) (t : Terms) (k : ℕ) (hs : List ℕ) → t .seats ≤ k → Known sheet (t .seats) (t .windows) (t .bases) k hs
+    → (I : Instance) (S : ℕ → ℕ → ℕ) (caps : Grid) → Told I t caps → Shows t S sheet
+    → Scored I S (record { heights = hs; weights = t .weights; positions = t .positions })
+scored sheet t k hs l known I S caps told shows =
+    let seat : (i : ℕ) → i < I .seats → i < t .seats = λ i li. omega (arith, told .seats-are) in
+    record {
+      heights-are = λ i li.
+          let cells = sum-eq (t .windows) (S i) (λ j. credit sheet i j) (λ j lj. shows i j (seat i li) lj) in
+          let used = ap (λ (m : ℕ). sum m (S i)) (told .windows-are) in
+          omega (arith, told .bases-are i (seat i li), cells, used, known .done i (omega (arith, seat i li)));
+      weights-are = λ i li. told .weights-are i (seat i li);
+      positions-are = λ i li. told .positions-are i (seat i li);
+    }
 
-  pub scored : (I : Instance) (S : ℕ → ℕ → ℕ) (caps : Grid) → Told I t caps → Shows t S sheet → Scored I S (t .seats) scores
-  scored I S caps told shows = record {
-    heights-are = λ i li.
-        let cells = sum-eq (t .windows) (S i) (λ j. credit sheet i j) (λ j lj. shows i j li lj) in
-        let used = ap (λ (m : ℕ). sum m (S i)) (told .windows-are) in
-        omega (arith, told .bases-are i li, cells, used, known .done i (omega arith));
-    weights-are = told .weights-are;
-    positions-are = told .positions-are;
-  }
-
-  pub bounded : Ranged t → Counted t sheet → Bounded (t .seats) scores
-  bounded r small i li = record {
-    height-most =
-        let most = sum-bound 4095 (t .windows) (λ j. credit sheet i j) (λ j lj. small i j li lj) in
-        omega (arith, known .done i (omega arith), r .bases-most i li, r .windows-most);
-    weight-least = r .weights-least i li;
-    weight-most = r .weights-most i li;
-  }
+-- a feasible sheet of small numbers has small scores
+pub bounded : (t : Terms) (caps : Grid) (sheet : Sheet) (scores : Scores) → Small t caps → Feasible (instanceIn t caps) (credit sheet)
+    → Scored (instanceIn t caps) (credit sheet) scores → Bounded (t .seats) scores
+bounded t caps sheet scores small feasible s i li = record {
+  height-most =
+      let most = sum-bound 4095 (t .windows) (λ j. credit sheet i j) (λ j lj. feasible-small t caps small sheet feasible i j li lj) in
+      omega (arith, s .heights-are i li, small .ranged .bases-most i li, small .ranged .windows-most);
+  weight-least = omega (arith, s .weights-are i li, small .ranged .weights-least i li);
+  weight-most = omega (arith, s .weights-are i li, small .ranged .weights-most i li);
+}

@@ -1,22 +1,32 @@
 // The search for exchange paths, which the marker and settling call.
-ghost use Prim.Native.Nat.{ℕ};
+ghost use mathlib.Core.Path.{_≡_};
+ghost use mathlib.Core.Bool.{true};
+ghost use mathlib.Core.Logic.{_⊎_, _↔_};
+ghost use Prim.Native.Nat.{ℕ, _≤_, _<_};
+ghost use lib.ListN.{getD};
 ghost use Rattle.fairness.specs.Instance.{Instance, Feasible};
+ghost use Rattle.model.specs.Book.{Grid};
 ghost use Rattle.sheet.specs.Sheets.{credit};
-ghost use Rattle.instance.specs.Terms.{instanceIn, Told, Shows, Small};
+ghost use Rattle.instance.specs.Terms.{instanceIn, Told, Shows, Ranged, Small};
+ghost use Rattle.masks.specs.Sets.{In};
+ghost use Rattle.reach.specs.Graphs.{setAt, Collects, Reached, Layers, Fewest};
 ghost use Rattle.exchange.specs.Paths.{movesOf, Writable, Answers};
+ghost use Rattle.exchange.specs.Tests.{testBy, scoreAt, Tested, Bounded, Scored, Wants};
+ghost use Rattle.exchange.specs.Steps.{Drawn, Firsts, Gives, GivesBy, Leading, Nearest};
 use instance::Terms;
+use reach::Graph;
 use sheet::Caps;
 use sheet::Move;
 use sheet::Sheet;
 
-// What an exchange path is wanted for.
+// What an exchange path does: it improves the sheet, or ties wrongly. Or there is none.
 pub enum Kind {
     None,
     Improving,
     WronglyTied,
 }
 
-// An exchange path from a receiver to a donor, its moves from the receiver's on; or none.
+// An exchange path from a receiver to a donor, its moves from the receiver's on.
 pub struct ExchangePath {
     pub kind: Kind,
     pub receiver: usize,
@@ -25,13 +35,225 @@ pub struct ExchangePath {
     pub moves: [Move; 31],
 }
 
-// An exchange path that improves, and where there is none one that ties wrongly.
-pub fn find_path(sheet: Sheet, caps: Caps, t: Terms) -> ExchangePath
-    requires { ⌜ Small t caps ⌝ }
-    requires { ⌜ Feasible (instanceIn t caps) (credit sheet) ⌝ }
-    ensures { λ r. ⌜ Writable r ⌝ }
-    ensures { λ r. ⌜ ((I : Instance) (S : ℕ → ℕ → ℕ) → Told I t caps → Shows t S sheet →
-        Answers I S (r .kind) (r .receiver) (r .donor) (movesOf r)) ⌝ }
+// What the tests look at of a seat: its height, its weight, and its place in the order of the seat rule.
+pub struct Score {
+    pub height: u32,
+    pub weight: u32,
+    pub position: u32,
+}
+
+// The scores of all seats.
+pub struct Scores {
+    pub heights: [u32; 32],
+    pub weights: [u32; 32],
+    pub positions: [u32; 32],
+}
+
+// A receiver and a donor that it reaches.
+pub enum Pair {
+    Nobody,
+    Between { receiver: usize, donor: usize },
+}
+
+// The scores of a sheet: a seat's height is its base and its cells together.
+fn scores_of(sheet: Sheet, t: Terms) -> Scores
+    requires { ⌜ Ranged t ⌝ }
+    ensures { λ r. ⌜ ((I : Instance) (S : ℕ → ℕ → ℕ) (caps : Grid) → Told I t caps → Shows t S sheet → Scored I S r) ⌝ }
+{
+    let seats = t.seats;
+    let windows = t.windows;
+    let bases = t.bases;
+    let weights = t.weights;
+    let positions = t.positions;
+    let mut heights = [0u32; 32];
+    for i in 0..seats {
+        heights[i] = bases[i] + sheet.total(i, windows);
+    }
+    Scores {
+        heights,
+        weights,
+        positions,
+    }
+}
+
+// The windows in which a row has less than another.
+fn below(a: [u16; 24], b: [u16; 24], windows: usize) -> u32
+    requires { ⌜ windows ≤ 24 ⌝ }
+    ensures { λ r. ⌜ Collects windows (λ w. getD a w 0 < getD b w 0) r ⌝ }
+{
+    let mut set: u32 = 0;
+    for w in 0..windows {
+        if a[w] < b[w] {
+            set = masks::insert(set, w);
+        }
+    }
+    set
+}
+
+// The holders of each window with a further seat, whose cells are given.
+fn with_holder(holders: [u32; 24], cells: [u16; 24], windows: usize, seat: usize) -> [u32; 24]
+    requires { ⌜ (windows ≤ 24) × (seat < 32) ⌝ }
+    ensures { λ r. ⌜ ((w i : ℕ) → In i (setAt r w) ↔
+        (In i (setAt holders w) ⊎ ((i ≡ seat) × ((w < windows) × (0 < getD cells w 0))))) ⌝ }
+{
+    let mut all = holders;
+    for w in 0..windows {
+        if cells[w] > 0 {
+            all[w] = masks::insert(all[w], seat);
+        }
+    }
+    all
+}
+
+// Who can take a credit from whom on a sheet.
+fn graph_of(sheet: Sheet, caps: Caps, t: Terms) -> Graph
+    requires { ⌜ Ranged t ⌝ }
+    ensures { λ r. ⌜ ((I : Instance) (S : ℕ → ℕ → ℕ) → Told I t caps → Shows t S sheet → Drawn I S r) ⌝ }
+{
+    let seats = t.seats;
+    let windows = t.windows;
+    let mut rooms = [0u32; 32];
+    let mut holders = [0u32; 24];
+    for i in 0..seats {
+        let row = sheet.rows[i];
+        let cells = row.cells;
+        rooms[i] = below(cells, caps[i], windows);
+        let more = with_holder(holders, cells, windows, i);
+        holders = more;
+    }
+    Graph { rooms, holders }
+}
+
+// Whether an exchange of this kind is wanted, by the scores of the receiver and of the donor.
+fn wanted(kind: Kind, receiver: Score, donor: Score) -> bool
+    requires { ⌜ Tested receiver × Tested donor ⌝ }
+    ensures { λ r. ⌜ r ≡ testBy kind receiver donor ⌝ }
+{
+    match kind {
+        Kind::None => false,
+        Kind::Improving => fairness::improves(
+            receiver.height,
+            receiver.weight,
+            donor.height,
+            donor.weight,
+        ),
+        Kind::WronglyTied => fairness::ties_wrongly(
+            receiver.height,
+            receiver.weight,
+            receiver.position,
+            donor.height,
+            donor.weight,
+            donor.position,
+        ),
+    }
+}
+
+// The donors that are wanted for a receiver.
+fn wanted_by(kind: Kind, scores: Scores, seats: usize, g: usize) -> u32
+    requires { ⌜ (seats ≤ 32) × ((g < seats) × Bounded seats scores) ⌝ }
+    ensures { λ r. ⌜ ((l : ℕ) → In l r ↔ Wants kind scores seats g l) ⌝ }
+{
+    let heights = scores.heights;
+    let weights = scores.weights;
+    let positions = scores.positions;
+    let receiver = Score {
+        height: heights[g],
+        weight: weights[g],
+        position: positions[g],
+    };
+    let mut set: u32 = 0;
+    for l in 0..seats {
+        let donor = Score {
+            height: heights[l],
+            weight: weights[l],
+            position: positions[l],
+        };
+        if wanted(kind, receiver, donor) {
+            set = masks::insert(set, l);
+        }
+    }
+    set
+}
+
+// The first receiver that reaches a donor which is wanted for it, and its lowest such donor.
+fn first_pair(kind: Kind, scores: Scores, graph: Graph, seats: usize) -> Pair
+    requires { ⌜ (seats ≤ 32) × Bounded seats scores ⌝ }
+    ensures { λ r. ⌜ Firsts kind scores graph seats r ⌝ }
+{
+    for g in 0..seats {
+        let wanted = wanted_by(kind, scores, seats, g);
+        if wanted != 0 {
+            let donors = masks::intersect(wanted, reach::reached(graph, g));
+            if donors != 0 {
+                return Pair::Between {
+                    receiver: g,
+                    donor: masks::lowest(donors),
+                };
+            }
+        }
+    }
+    Pair::Nobody
+}
+
+// A move by which a seat gives to a member of a set.
+fn move_from(graph: Graph, set: u32, giver: usize) -> Move
+    requires { ⌜ (giver < 32) × Gives graph set giver ⌝ }
+    ensures { λ r. ⌜ GivesBy graph set giver r ⌝ }
+{
+    let rooms = graph.rooms;
+    let holders = graph.holders;
+    let windows = reach::column(&holders, giver);
+    let taker = reach::first_meeting(set, &rooms, windows);
+    let window = masks::lowest(masks::intersect(rooms[taker], windows));
+    Move {
+        window,
+        giver,
+        taker,
+    }
+}
+
+// The moves of a shortest path to a donor, from the layers that each number of moves reaches: from the donor back, the taker of each move
+// is a seat of the layer before.
+fn moves_to(graph: Graph, sets: [u32; 32], donor: usize, count: usize) -> [Move; 31]
+    requires { ⌜ Fewest sets donor count × ((g : ℕ) × Layers graph g sets) ⌝ }
+    ensures { λ r. ⌜ Leading graph sets donor count r ⌝ }
+{
+    let none = Move {
+        window: 0,
+        giver: 0,
+        taker: 0,
+    };
+    let mut moves = [none; 31];
+    let mut giver = donor;
+    let mut r = count;
+    while r > 0 {
+        r -= 1;
+        let m = move_from(graph, sets[r], giver);
+        moves[r] = m;
+        giver = m.taker;
+    }
+    moves
+}
+
+// An exchange path from a receiver to a donor that has the fewest moves.
+fn path_to(kind: Kind, graph: Graph, receiver: usize, donor: usize) -> ExchangePath
+    requires { ⌜ (receiver < 32) × Reached graph receiver donor ⌝ }
+    ensures { λ r. ⌜ Nearest kind graph receiver donor r ⌝ }
+{
+    let sets = reach::layers(graph, receiver);
+    let count = reach::fewest(sets, donor);
+    ExchangePath {
+        kind,
+        receiver,
+        donor,
+        count,
+        moves: moves_to(graph, sets, donor, count),
+    }
+}
+
+// No exchange path.
+fn no_path() -> ExchangePath
+    ensures { λ r. ⌜ (r .kind ≡ Kind.None) × (r .count ≡ 0) ⌝ }
 {
     let none = Move {
         window: 0,
@@ -45,4 +267,24 @@ pub fn find_path(sheet: Sheet, caps: Caps, t: Terms) -> ExchangePath
         count: 0,
         moves: [none; 31],
     }
+}
+
+// An exchange path that improves, and where there is none one that ties wrongly.
+pub fn find_path(sheet: Sheet, caps: Caps, t: Terms) -> ExchangePath
+    requires { ⌜ Small t caps ⌝ }
+    requires { ⌜ Feasible (instanceIn t caps) (credit sheet) ⌝ }
+    ensures { λ r. ⌜ Writable r ⌝ }
+    ensures { λ r. ⌜ ((I : Instance) (S : ℕ → ℕ → ℕ) → Told I t caps → Shows t S sheet →
+        Answers I S (r .kind) (r .receiver) (r .donor) (movesOf r)) ⌝ }
+{
+    let seats = t.seats;
+    let scores = scores_of(sheet, t);
+    let graph = graph_of(sheet, caps, t);
+    if let Pair::Between { receiver, donor } = first_pair(Kind::Improving, scores, graph, seats) {
+        return path_to(Kind::Improving, graph, receiver, donor);
+    }
+    if let Pair::Between { receiver, donor } = first_pair(Kind::WronglyTied, scores, graph, seats) {
+        return path_to(Kind::WronglyTied, graph, receiver, donor);
+    }
+    no_path()
 }

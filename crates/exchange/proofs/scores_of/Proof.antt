@@ -1,14 +1,14 @@
--- `terms::scores_of` meets its contract. Each turn works out one height.
+-- `exchange::scores_of` meets its contract. Each turn works out one height.
 use Prim.Native.Nat.{_-_}
 use native.Mathlib.Omega.{arith}
 use mathlib.Core.Path.{refl}
 use Rattle.sheet.specs.Sheets.{credit}
 use Rattle.sheet.proofs.Shapes.{credit-small}
 use Rattle.sheet.proofs.Sums.{sum-bound}
-use Rattle.terms.proofs.Heights.{Known, first, next, scored, bounded}
+use Rattle.exchange.proofs.Heights.{Known, first, next, scored}
 use borrow.Author.Needs.{needs}
-use Rattle.terms.proofs.scores_of.Statement.{statement}
-use Rattle.terms.proofs.scores_of.Tie as tie
+use Rattle.exchange.proofs.scores_of.Statement.{statement}
+use Rattle.exchange.proofs.scores_of.Tie as tie
 
 abbrev Inv-loop : tie.InvT-loop
 Inv-loop sheet seats windows bases weights positions heights₀ i₀ heights i = Known sheet seats windows bases i heights
@@ -38,12 +38,9 @@ loop-again c =
 
 returns : tie.Need-returns Inv-loop μ-loop
 returns c =
-    let b = c .before .before .before .before .before in
-    let a = b .args in
-    let l = c .before .loop in (
-      scored (a .sheet) (a .t) (l .i) (l .heights) (search needs) (l .inv),
-      bounded (a .sheet) (a .t) (l .i) (l .heights) (search needs) (l .inv) (b .pre),
-    )
+    let a = c .before .before .before .before .before .args in
+    let l = c .before .loop in
+    scored (a .sheet) (a .t) (l .i) (l .heights) (search needs) (l .inv)
 
 pub scores-of-spec : {M : Type 1} → statement M
 scores-of-spec =
