@@ -16,6 +16,10 @@ replicate-at zero i d = refl
 replicate-at (suc n) zero d = refl
 replicate-at (suc n) (suc i) d = replicate-at n i d
 
+-- zeros
+pub zeros-at : (n i : ℕ) → _≡_ {A = ℕ} (getD (replicate n 0) i 0) 0
+zeros-at n i = replicate-at {A = ℕ} n i 0
+
 -- An array of n entries, of which a loop fills the first m. It has filled i: each of these has P. The others are still those of `old`.
 -- Past the end of an array stands d.
 pub record Filled {A : Type 0} (P : ℕ → A → Type 0) (d : A) (n m : ℕ) (old : List A) (i : ℕ) (xs : List A) : Type 0 where
