@@ -8,9 +8,9 @@ use Rattle.model.specs.Book.{Grid, cell, Shaped}
 use Rattle.sheet.specs.declared.Sheet.{Sheet}
 use Rattle.sheet.specs.Sheets.{credit, gridOf}
 use Rattle.sheet.proofs.Cells.{credit-is}
-use Rattle.terms.specs.declared.Terms.{Terms}
-use Rattle.terms.specs.Terms.{instanceIn}
-use Rattle.terms.proofs.Told.{told-in}
+use Rattle.instance.specs.declared.Terms.{Terms}
+use Rattle.instance.specs.Terms.{instanceIn}
+use Rattle.instance.proofs.Told.{told-in}
 use Rattle.fill.specs.Fills.{Full, Filled}
 use Rattle.fill.proofs.Feasible.{is-full}
 

@@ -3,10 +3,10 @@
 ghost use Rattle.fairness.specs.Instance.{Instance, Feasible};
 ghost use Rattle.fairness.specs.Exchange.{Settled};
 ghost use Rattle.sheet.specs.Sheets.{credit};
-ghost use Rattle.terms.specs.Terms.{instanceIn, Told, Small};
+ghost use Rattle.instance.specs.Terms.{instanceIn, Told, Small};
 use sheet::Caps;
 use sheet::Sheet;
-use terms::Terms;
+use instance::Terms;
 
 // A settled sheet, from any feasible sheet of these terms.
 pub fn settled_from(sheet: Sheet, t: Terms, caps: Caps) -> Sheet

@@ -7,8 +7,8 @@ use Rattle.fairness.specs.Sums.{sum}
 use Rattle.fairness.specs.Instance.{Instance, Feasible, Wasteful, placed}
 use Rattle.fairness.proofs.Sums.{sum-lt}
 use Rattle.model.specs.Book.{Grid, cell}
-use Rattle.terms.specs.declared.Terms.{Terms}
-use Rattle.terms.specs.Terms.{instanceIn, Told}
+use Rattle.instance.specs.declared.Terms.{Terms}
+use Rattle.instance.specs.Terms.{instanceIn, Told}
 use Rattle.fill.specs.Fills.{Full, FeasibleAt, Filled}
 
 -- a feasible grid is so in each window

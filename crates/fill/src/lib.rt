@@ -4,10 +4,10 @@ ghost use Prim.Native.Nat.{min, _+_, _-_, _≤_, _<_};
 ghost use Rattle.fairness.specs.Sums.{sum};
 ghost use Rattle.fairness.specs.Instance.{Feasible};
 ghost use Rattle.model.specs.Book.{cell, Shaped};
-ghost use Rattle.terms.specs.Terms.{instanceIn};
+ghost use Rattle.instance.specs.Terms.{instanceIn};
 ghost use Rattle.fill.specs.Fills.{FeasibleAt, Handed, Filled};
 use sheet::Caps;
-use terms::Terms;
+use instance::Terms;
 
 pub fn lesser(a: u16, b: u16) -> u16
     ensures { λ r. ⌜ r ≡ min a b ⌝ }

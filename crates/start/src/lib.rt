@@ -13,7 +13,7 @@ use masks::minus;
 use residual::Phase;
 use residual::Residual;
 use sheet::Caps;
-use terms::Terms;
+use instance::Terms;
 
 // One augmentation: the lowest receiver that is active takes from the highest donor that it reaches. Returns who is active after it.
 fn turn(grid: &mut Caps, residual: &mut Residual, caps: &Caps, phase: Phase, active: u32) -> u32

@@ -5,7 +5,7 @@ use masks::insert;
 use masks::remove;
 use sheet::Caps;
 use sheet::Move;
-use terms::Terms;
+use instance::Terms;
 
 // All of it in one array of rows, which is lent whole.
 pub(crate) type Residual = [[u32; 32]; 5];
