@@ -1,15 +1,15 @@
--- `settle::play_route` meets its contract. Each turn plays one move.
+-- `settle::play_path` meets its contract. Each turn plays one move.
 use Prim.Native.Nat.{ℕ, _-_, _<_}
 use mathlib.Core.Path.{ap}
 use native.Mathlib.Omega.{arith}
 use mathlib.Core.List.{map}
 use lib.ListN.{length, take}
-use Rattle.exchange.specs.Search.{movesOf}
+use Rattle.exchange.specs.Paths.{movesOf}
 use Rattle.sheet.specs.Sheets.{credit, moveOf}
-use Rattle.settle.proofs.Routes.{Played, first, this, next, last, move-at, counted-within, route-size}
+use Rattle.settle.proofs.Playing.{Played, first, this, next, last, move-at}
 use borrow.Author.Needs.{needs}
-use Rattle.settle.proofs.play_route.Statement.{statement}
-use Rattle.settle.proofs.play_route.Tie as tie
+use Rattle.settle.proofs.play_path.Statement.{statement}
+use Rattle.settle.proofs.play_path.Tie as tie
 
 abbrev Inv-loop : tie.InvT-loop
 Inv-loop count moves after₀ k₀ after k = Played (credit after₀) (map moveOf (take count moves)) k (credit after)
@@ -22,10 +22,7 @@ loop-holds c = first _ _ (c .before .pre .1)
 
 -- a turn reads a move that the array has
 in-array : (c : tie.In-loop Inv-loop μ-loop) → c .before .loop .k < 31
-in-array c =
-    let b = c .before .before .before in
-    let size = route-size (b .args .route) _ (b .good .1 .0) in
-    omega (arith, size, counted-within (b .args .route .moves) (b .args .route .count) (b .pre .0))
+in-array c = omega (arith, c .before .before .before .pre .0 .few)
 
 mul-m : tie.Need-mul-m Inv-loop μ-loop
 mul-m c = omega (arith, in-array c)
@@ -37,26 +34,26 @@ play-requires : tie.Need-play-requires Inv-loop μ-loop
 play-requires c κs =
     let a = c .before .before .before .before .args in
     let l = c .before .before .loop in
-    let k : l .k < a .route .count = search needs in
-    let inside : l .k < length (movesOf (a .route)) = omega (arith, c .before .before .before .before .pre .0) in
-    this _ _ (l .k) (credit (l .after)) (l .inv) inside _ _ (move-at (a .route .moves) (a .route .count) (l .k) k)
+    let k : l .k < a .path .count = search needs in
+    let inside : l .k < length (movesOf (a .path)) = omega (arith, c .before .before .before .before .pre .0 .counted) in
+    this _ _ (l .k) (credit (l .after)) (l .inv) inside _ _ (move-at (a .path .moves) (a .path .count) (l .k) k)
 
 loop-again : tie.Need-loop-again Inv-loop μ-loop
 loop-again c =
     let a = c .before .before .before .before .before .args in
     let l = c .before .before .before .loop in
-    let k : l .k < a .route .count = search needs in
-    let inside : l .k < length (movesOf (a .route)) = omega (arith, c .before .before .before .before .before .pre .0) in
-    next _ _ (l .k) (credit (l .after)) (l .inv) inside _ _ (move-at (a .route .moves) (a .route .count) (l .k) k)
+    let k : l .k < a .path .count = search needs in
+    let inside : l .k < length (movesOf (a .path)) = omega (arith, c .before .before .before .before .before .pre .0 .counted) in
+    next _ _ (l .k) (credit (l .after)) (l .inv) inside _ _ (move-at (a .path .moves) (a .path .count) (l .k) k)
     _ (λ i j. ap (λ (f : ℕ → ℕ → ℕ). f i j) (c .play .ensures))
 
 returns : tie.Need-returns Inv-loop μ-loop
 returns c =
     let l = c .before .loop in
-    last _ _ (l .k) (credit (l .after)) (l .inv) (omega (arith, c .before .before .before .pre .0))
+    last _ _ (l .k) (credit (l .after)) (l .inv) (omega (arith, c .before .before .before .pre .0 .counted))
 
-pub play-route-spec : {M : Type 1} → statement M
-play-route-spec =
+pub play-path-spec : {M : Type 1} → statement M
+play-path-spec =
     tie.close
     (tie.spec
     Inv-loop
