@@ -8,6 +8,7 @@ use native.Mathlib.Omega.{arith}
 use lib.ListN.{length, getD, set, replicate, length-set, getD-replicate}
 use lib.Seq.{getD-set-same, getD-set-other, ext-getD}
 use Rattle.fairness.specs.Leximin.{table}
+pub use Rattle.lists.specs.Arrays.{Filled}
 use Rattle.lists.proofs.Tables.{table-is, table-at, table-out}
 
 -- an array of n times d
@@ -19,15 +20,6 @@ replicate-at (suc n) (suc i) d = replicate-at n i d
 -- zeros
 pub zeros-at : (n i : ℕ) → _≡_ {A = ℕ} (getD (replicate n 0) i 0) 0
 zeros-at n i = replicate-at {A = ℕ} n i 0
-
--- An array of n entries, of which a loop fills the first m. It has filled i: each of these has P. The others are still those of `old`.
--- Past the end of an array stands d.
-pub record Filled {A : Type 0} (P : ℕ → A → Type 0) (d : A) (n m : ℕ) (old : List A) (i : ℕ) (xs : List A) : Type 0 where
-  pub room : m ≤ n
-  pub within : i ≤ m
-  pub size : length xs ≡ n
-  pub entry : (k : ℕ) → k < i → P k (getD xs k d)
-  pub rest : (k : ℕ) → i ≤ k → getD xs k d ≡ getD old k d
 
 module _ {A : Type 0} {P : ℕ → A → Type 0} {d : A} {n m : ℕ} {old : List A} where
   -- before the first turn
