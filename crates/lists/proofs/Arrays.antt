@@ -1,4 +1,4 @@
--- Arrays that a loop fills from the front. The loop's invariant is `Filled`; `filled-first`, `filled-next` and `filled-at` are its
+-- Arrays that a loop fills from the front. The loop's invariant is `Filled`; `filled-first`, `filled-next` and `filled-end` are its
 -- entry, its turn and its end; where every entry is known, the laws behind these say what the whole array is.
 use mathlib.Core.List.{List}
 use mathlib.Core.Path.{_≡_, refl, sym, _∙_, ap}
@@ -42,7 +42,11 @@ module _ {A : Type 0} {P : ℕ → A → Type 0} {d : A} {n m : ℕ} {old : List
         rest = λ k h. getD-set-other xs i k x d (λ e. omega arith) ∙ f .rest k (omega arith);
       }
 
-  -- after the last one: each of the m entries
+  -- after the last one
+  pub filled-end : {i : ℕ} {xs : List A} → Filled P d n m old i xs → m ≤ i → Filled P d n m old m xs
+  filled-end {i} {xs} f l = let e : i ≡ m = omega (arith, f .within) in rw e at f
+
+  -- each of the m entries
   pub filled-at : {i : ℕ} {xs : List A} → Filled P d n m old i xs → m ≤ i → (k : ℕ) → k < m → P k (getD xs k d)
   filled-at f l k h = f .entry k (omega arith)
 
