@@ -1,4 +1,4 @@
--- Routes that are played.
+-- Exchange paths that are played.
 use mathlib.Core.List.{List, [], _∷_}
 use Prim.Native.Nat.{ℕ}
 use Rattle.fairness.specs.Exchange.{Move, play}

@@ -1,23 +1,17 @@
--- A loop that plays the moves of a route in turn.
+-- A loop that plays the moves of an exchange path in turn. Assumes nothing.
 use mathlib.Core.Path.{_≡_, refl, ap, sym, _∙_, fun-ext}
-use mathlib.Core.List.{List, [], _∷_, map}
+use mathlib.Core.List.{List, [], _∷_}
 use Prim.Native.Nat.{ℕ, suc, _+_, _≤_, _<_}
 use native.Mathlib.Nat.{le-trans}
 use native.Mathlib.Numerals.{add-one}
 use native.Mathlib.Omega.{arith}
-use lib.ListN.{length, getD, take, drop, length-map, length-take, List·getD-map, drop-of-length-le}
-use lib.Seq.{drop-cons, getD-take}
+use lib.ListN.{length, getD, drop, drop-of-length-le}
+use lib.Seq.{drop-cons}
 use Rattle.fairness.specs.Instance.{Instance, Sheet}
 use Rattle.fairness.specs.Exchange.{Move, play, playAll, PlaysOut}
-use Rattle.sheet.specs.declared.Move as memory
-use Rattle.sheet.specs.Sheets.{moveOf, Playable}
+use Rattle.sheet.specs.Sheets.{Playable}
 use Rattle.sheet.proofs.Moves.{playable}
-use mir.Val.{Val}
-use denote.Shadow.{shadow}
-use Rattle.sheet.proofs.Move.{the-field}
-use Rattle.exchange.specs.declared.Route.{Route}
-use Rattle.exchange.proofs.Route.{the-row}
-use Rattle.settle.specs.Routes.{AllPlayable}
+use Rattle.settle.specs.Playing.{AllPlayable}
 
 -- moves that play out are playable, where the book fits the arrays
 pub all-playable : (I : Instance) (S : Sheet) (ms : List Move) → I .seats ≤ 32 → I .windows ≤ 24
@@ -61,20 +55,3 @@ module _ (S : Sheet) (ms : List Move) where
   last k T played l i j =
       let done = ap (playAll T) (sym (drop-of-length-le ms l)) ∙ played .same in
       ap (λ (f : Sheet). f i j) done
-
--- what a move past the array's last one counts as
-abbrev noMove : memory.Move
-noMove = record { window = 0; giver = 0; taker = 0 }
-
--- a move of the array is one of the route
-pub move-at : (moves : List memory.Move) (n k : ℕ) → k < n
-    → getD (map moveOf (take n moves)) k (moveOf noMove) ≡ moveOf (getD moves k noMove)
-move-at moves n k l = List·getD-map moveOf (take n moves) k noMove ∙ ap moveOf (getD-take n moves k noMove l)
-
--- and an array has as many moves as its route counts
-pub counted-within : (moves : List memory.Move) (n : ℕ) → length (map moveOf (take n moves)) ≡ n → n ≤ length moves
-counted-within moves n e = omega (arith, length-map (take n moves) moveOf, length-take n moves)
-
--- an array in memory has 31
-pub route-size : (r : Route) (vs : List Val) → shadow (the-row .own r vs) → length (r .moves) ≡ 31
-route-size r vs p = sym (length-map (r .moves) (the-field .into)) ∙ p .1 .1 .1 .0 .1 .0 .1
