@@ -29,15 +29,5 @@ returns c = rows-end (c .before .loop .inv) (search needs)
 
 pub columns-spec : {M : Type 1} → statement M
 columns-spec =
-    tie.close
-    (tie.spec
-    Inv-loop
-    μ-loop
-    (λ c. filled-first refl (search needs))
-    (λ c κs. search needs)
-    (λ c. search needs)
-    (λ c. search needs)
-    (λ c. search needs)
-    (λ c. search needs)
-    loop-again
-    returns)
+    tie.close (tie.spec Inv-loop μ-loop (λ c. filled-first refl (search needs)) (λ c κs. search needs) (λ c. search needs)
+    (λ c. search needs) (λ c. search needs) (λ c. search needs) loop-again returns)
