@@ -23,8 +23,7 @@ use Rattle.dayfile.proofs.Tests.{is-within, cond-no}
 use Rattle.dayfile.proofs.Fields.{fields-at}
 use Rattle.dayfile.proofs.Grids.{flat-length, flat-cell, grid-there}
 use Rattle.dayfile.proofs.Container.{nth, before-all, file-size, count-is, kind-is, start-is, size-is, ends-is, body-is}
-use Rattle.dayfile.proofs.Sound.{InOrder}
-use Rattle.dayfile.proofs.Rising.{split-first}
+use Rattle.dayfile.proofs.Rising.{InOrder, split-first}
 use Rattle.dayfile.proofs.Optional.{Above, above-opt, above-next, Each, each-nth, each-opt, IfThere, few-opt}
 use Rattle.dayfile.proofs.Optional.{BodyAt, Looked, look}
 
