@@ -18,6 +18,4 @@ returns c =
     c .grid .ensures ∙ grid-as _ (b .before .before .start .ensures .0) (b .before .seats .ensures .0) (b .windows .ensures .0)
 
 pub grid-of-spec : {M : Type 1} → statement M
-grid-of-spec =
-    tie.close
-    (tie.spec (λ c κs. search needs) (λ c κs. search needs) (λ c κs. search needs) (λ c κs. search needs) returns)
+grid-of-spec = tie.close (tie.spec (λ c κs. search needs) (λ c κs. search needs) (λ c κs. search needs) (λ c κs. search needs) returns)

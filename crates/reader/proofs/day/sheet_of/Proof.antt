@@ -34,5 +34,4 @@ returns-2 c =
     c .no-grid .ensures ∙ ap (λ (x : Found). sheetBy f (found x)) (sym (e .enum-told .given .1))
 
 pub sheet-of-spec : {M : Type 1} → statement M
-sheet-of-spec =
-    tie.close (tie.spec (λ c. search needs) grid-of-requires returns (λ c. search needs) (λ c κs. search needs) returns-2)
+sheet-of-spec = tie.close (tie.spec (λ c. search needs) grid-of-requires returns (λ c. search needs) (λ c κs. search needs) returns-2)
