@@ -6,8 +6,8 @@ pub mod Answers
 pub mod Tables
 pub mod Fields
 pub mod Grids
-pub mod Sound
 pub mod Rising
+pub mod Sound
 pub mod Container
 pub mod Optional
 pub mod WrittenReads
@@ -16,4 +16,5 @@ pub mod Accepted
 pub mod Lengths
 pub mod Held
 pub mod Theorems
+pub mod Readings
 pub mod Examples

@@ -5,8 +5,10 @@ use mathlib.Core.List.{List, [], _∷_, map}
 use Prim.Native.Nat.{ℕ, zero, suc, _≤_, _<_}
 use native.Mathlib.Decide.{ℕ-discrete}
 use native.Mathlib.Omega.{arith}
-use lib.ListN.{length, getD, set, take, replicate, length-set, length-take, length-map, List·getD-map}
+use lib.ListN.{length, getD, set, take, replicate, length-set, length-take, List·getD-map}
 use lib.Seq.{getD-set-same, getD-set-other, getD-take, ext-getD, take-nil}
+use Rattle.lists.proofs.Alls.{taken-at, taken-length}
+use Rattle.lists.proofs.Arrays.{zeros-at}
 use Rattle.fairness.specs.Sums.{sum}
 use Rattle.fairness.proofs.Sums.{sum-eq}
 use Rattle.model.specs.Book.{Grid, cell, Shaped}
@@ -29,14 +31,9 @@ pub credit-is : (s : Sheet) → credit s ≡ cell (gridOf s)
 credit-is s = fun-ext (λ i. fun-ext (λ j. credit-cell s i j))
 
 -- rows of zeros
-zeros : (m j : ℕ) → _≡_ {A = ℕ} (getD (replicate m 0) j 0) 0
-zeros zero j = refl
-zeros (suc m) zero = refl
-zeros (suc m) (suc j) = zeros m j
-
 pub all-zero : (n m i j : ℕ) → credit (record { rows = replicate n (record { cells = replicate m 0 }) }) i j ≡ 0
 all-zero zero m i j = refl
-all-zero (suc n) m zero j = zeros m j
+all-zero (suc n) m zero j = zeros-at m j
 all-zero (suc n) m (suc i) j = all-zero n m i j
 
 -- ---- grids of one shape
@@ -58,7 +55,7 @@ row-used : (n m : ℕ) (g : Grid) (i : ℕ) → i < n → getD (used n m g) i []
 unfolding used
 row-used n m g i l =
     let e : _≡_ {A = List ℕ} [] (take m []) = sym (take-nil m) in
-    ap (getD (map (take m) (take n g)) i) e ∙ List·getD-map (take m) (take n g) i [] ∙ ap (take m) (getD-take n g i [] l)
+    ap (getD (map (take m) (take n g)) i) e ∙ taken-at (take m) g n i [] l
 
 pub used-cell : (n m : ℕ) (g : Grid) (i j : ℕ) → i < n → j < m → cell (used n m g) i j ≡ cell g i j
 used-cell n m g i j l k = ap (λ (r : List ℕ). getD r j 0) (row-used n m g i l) ∙ getD-take m (getD g i []) j 0 k
@@ -76,7 +73,7 @@ used-placed n m g j l = sum-eq n _ _ (λ i k. used-cell n m g i j k l)
 pub used-shaped : (N M n m : ℕ) (g : Grid) → Shaped N M g → n ≤ N → m ≤ M → Shaped n m (used n m g)
 unfolding used
 used-shaped N M n m g p a b = record {
-  rows = length-map (take n g) (take m) ∙ length-take n g ∙ omega (arith, p .rows);
+  rows = taken-length (take m) g n (omega (arith, p .rows));
   row = λ i l. ap length (row-used n m g i l) ∙ length-take m (getD g i []) ∙ omega (arith, p .row i (omega arith));
 }
 

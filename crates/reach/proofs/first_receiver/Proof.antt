@@ -128,41 +128,9 @@ returns-2 c =
 
 pub first-receiver-spec : {M : Type 1} → statement M
 first-receiver-spec =
-    tie.close
-    (tie.spec
-    Inv-window
-    μ-window
-    Inv-reached
-    μ-reached
-    Inv-receiver
-    μ-receiver
-    (λ c. search needs)
-    (λ c κs. search needs)
-    (λ c κs. search needs)
-    reached-holds
-    (λ c κs. search needs)
-    (λ c κs. search needs)
-    (λ c. search needs)
-    (λ c. search needs)
-    (λ c κs. search needs)
-    (λ c κs. search needs)
-    window-holds
-    reached-less
-    reached-again
-    (λ c κs. search needs)
-    (λ c κs. search needs)
-    mul-minus
-    array-read-minus
-    (λ c κs. search needs)
-    (λ c. search needs)
-    array-read-intersect-2
-    (λ c κs. search needs)
-    (λ c κs. search needs)
-    (λ c κs. search needs)
-    window-less
-    window-again
-    (λ c. search needs)
-    (λ c. search needs)
-    receiver-again
-    returns
+    tie.close (tie.spec Inv-window μ-window Inv-reached μ-reached Inv-receiver μ-receiver (λ c. search needs) (λ c κs. search needs)
+    (λ c κs. search needs) reached-holds (λ c κs. search needs) (λ c κs. search needs) (λ c. search needs) (λ c. search needs)
+    (λ c κs. search needs) (λ c κs. search needs) window-holds reached-less reached-again (λ c κs. search needs) (λ c κs. search needs)
+    mul-minus array-read-minus (λ c κs. search needs) (λ c. search needs) array-read-intersect-2 (λ c κs. search needs)
+    (λ c κs. search needs) (λ c κs. search needs) window-less window-again (λ c. search needs) (λ c. search needs) receiver-again returns
     returns-2)
