@@ -10,8 +10,8 @@ use Rattle.sheet.specs.Sheets.{credit, gridOf}
 use Rattle.sheet.proofs.Cells.{credit-is}
 use Rattle.fill.specs.Fills.{Full, FeasibleAt, Filled}
 use Rattle.fill.proofs.Feasible.{is-full}
-use Rattle.terms.specs.declared.Terms.{Terms}
-use Rattle.terms.specs.Terms.{instanceIn, Told}
+use Rattle.instance.specs.declared.Terms.{Terms}
+use Rattle.instance.specs.Terms.{instanceIn, Told}
 use Rattle.settle.proofs.fill_free.Statement.{statement}
 use Rattle.settle.proofs.fill_free.Tie as tie
 

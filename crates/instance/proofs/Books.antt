@@ -1,0 +1,93 @@
+-- A loop that works out each seat's weight and place, and what its end tells of the book that is in memory. Assumes nothing.
+use mathlib.Core.Path.{_≡_, ap, sym, _∙_}
+use mathlib.Core.List.{List, []}
+use Prim.Native.Nat.{ℕ, _≤_, _<_}
+use native.Mathlib.Nat.{le-trans}
+use native.Mathlib.Omega.{arith}
+use lib.ListN.{getD}
+use Rattle.lists.proofs.Arrays.{Filled, filled-at}
+use Rattle.fairness.specs.Classes.{ClassWeight, weightOf}
+use Rattle.model.specs.Book.{Grid, cell, seats, windows, instanceOf}
+use Rattle.dayfile.specs.Bounds.{Fit}
+use Rattle.dayfile.specs.Memory.{bookIn}
+use Rattle.dayfile.specs.declared.Book as Memory
+use Rattle.dayfile.proofs.Tables.{sized-at, sized-row}
+use Rattle.dayfile.proofs.Held.{seats-in, windows-in}
+use Rattle.instance.specs.declared.Terms.{Terms}
+use Rattle.instance.specs.Terms.{Told, Ranged}
+
+-- ---- the used entries of a book in memory are the book's
+
+module _ (m : Memory.Book) (caps : Grid) where
+  class-is : (i : ℕ) → i < m .seats → getD (bookIn m caps .classes) i 0 ≡ getD (m .classes) i 0
+  unfolding bookIn
+  class-is i l = sized-at (m .seats) (m .classes) i l
+
+  supply-is : (j : ℕ) → j < m .windows → getD (bookIn m caps .supplies) j 0 ≡ getD (m .supplies) j 0
+  unfolding bookIn
+  supply-is j l = sized-at (m .windows) (m .supplies) j l
+
+  pub cap-is : (i j : ℕ) → i < m .seats → j < m .windows → cell (bookIn m caps .caps) i j ≡ cell caps i j
+  unfolding bookIn
+  cap-is i j li lj =
+      ap (λ (r : List ℕ). getD r j 0) (sized-row (m .seats) (m .windows) caps i li) ∙ sized-at (m .windows) (getD caps i []) j lj
+
+  module _ (fit : Fit (bookIn m caps)) where
+    pub seats-most : m .seats ≤ 32
+    seats-most = omega (arith, fit .seats-high, seats-in m caps)
+
+    pub windows-most : m .windows ≤ 24
+    windows-most = omega (arith, fit .windows-high, windows-in m caps)
+
+    pub class-ranged : (i : ℕ) → i < m .seats → (1 ≤ getD (m .classes) i 0) × (getD (m .classes) i 0 ≤ 8)
+    class-ranged i l =
+        let inside : i < seats (bookIn m caps) = omega (arith, seats-in m caps) in
+        (omega (arith, class-is i l, fit .class-low i inside), omega (arith, class-is i l, fit .class-high i inside))
+
+    supply-ranged : (j : ℕ) → j < m .windows → getD (m .supplies) j 0 ≤ 4095
+    supply-ranged j l =
+        let inside : j < windows (bookIn m caps) = omega (arith, windows-in m caps) in
+        omega (arith, supply-is j l, fit .supply-high j inside)
+
+-- ---- the loop
+
+-- the first k weights, which were ws₀ before, and the first k places are known
+abbrev pub Known : Memory.Book → List ℕ → List ℕ → ℕ → List ℕ → List ℕ → Type 0
+Known m ws₀ ps₀ k ws ps =
+    Filled (λ i w. ClassWeight (getD (m .classes) i 0) w) 0 32 (m .seats) ws₀ k ws × Filled (λ i p. p ≡ i) 0 32 (m .seats) ps₀ k ps
+
+-- ---- its end
+
+module _ (m : Memory.Book) (k : ℕ) (ws₀ ps₀ ws ps bs : List ℕ) (l : m .seats ≤ k) (known : Known m ws₀ ps₀ k ws ps)
+    (none : (i : ℕ) → getD bs i 0 ≡ 0) where
+  abbrev made : Terms
+  made = record { seats = m .seats; windows = m .windows; supplies = m .supplies; weights = ws; bases = bs; positions = ps }
+
+  weight-at : (i : ℕ) → i < m .seats → ClassWeight (getD (m .classes) i 0) (getD ws i 0)
+  weight-at = filled-at (known .0) l
+
+  position-at : (i : ℕ) → i < m .seats → getD ps i 0 ≡ i
+  position-at = filled-at (known .1) l
+
+  pub ranged : (caps : Grid) → Fit (bookIn m caps) → Ranged made
+  ranged caps fit = record {
+    seats-most = seats-most m caps fit;
+    windows-most = windows-most m caps fit;
+    supplies-most = supply-ranged m caps fit;
+    weights-least = λ i li. weight-at i li .least;
+    weights-most = λ i li. le-trans (weight-at i li .most) (omega arith);
+    bases-most = λ i li. omega (arith, none i);
+    positions-differ = λ i j li lj e. sym (position-at i li) ∙ e ∙ position-at j lj;
+  }
+
+  pub told : (caps : Grid) → Told (instanceOf (bookIn m caps)) made caps
+  unfolding instanceOf
+  told caps = record {
+    seats-are = seats-in m caps;
+    windows-are = windows-in m caps;
+    caps-are = cap-is m caps;
+    supplies-are = supply-is m caps;
+    weights-are = λ i li. ap weightOf (class-is m caps i li) ∙ sym (weight-at i li .exact);
+    bases-are = λ i li. sym (none i);
+    positions-are = λ i li. sym (position-at i li);
+  }
