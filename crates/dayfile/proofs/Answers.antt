@@ -7,13 +7,14 @@ use Prim.Native.Nat.{ℕ, _<_}
 use native.Mathlib.Omega.{arith}
 use lib.ListN.{length}
 use Rattle.dayfile.specs.Table.{Line, Refusal, refuse, firstOf}
-use Rattle.dayfile.specs.Outcome.{turnedAway, answer, unless}
-use Rattle.dayfile.specs.Memory.{found, Under, refused, front, after, Writes}
+use Rattle.dayfile.specs.Outcome.{Outcome, turnedAway, answer, unless, outcome, Defined}
+use Rattle.dayfile.specs.Memory.{found, Under, refused, front, Writes}
 use Rattle.dayfile.specs.declared.Found.{Found}
 use Rattle.dayfile.specs.declared.Found.the-variants.{At, Nothing}
 use Rattle.dayfile.specs.declared.Check.{Check}
 use Rattle.dayfile.specs.declared.Check.the-variants.{Refused, Sound}
 use Rattle.dayfile.specs.declared.Written as Written
+use Rattle.dayfile.proofs.Lines.{first-holds, holds-first, none-holds, none-first-of}
 
 -- a refusal comes from a line that holds, and an answer means that none does
 pub away : {A : Type 0} (o : Option Refusal) (x : A) (q : Refusal) → unless o x ≡ turnedAway q → o ≡ some q
@@ -42,19 +43,84 @@ refuses e h = sym e ∙ ap refused h
 pub passes : {r : Check} {l : Option Refusal} → refused r ≡ l → r ≡ Sound → l ≡ none
 passes e h = sym e ∙ ap refused h
 
--- a call that writes a file: it refuses and leaves the buffer alone, or the file stands at the buffer's front
-pub writes-refused : (lines : ℕ → List Line) (file buf : List ℕ) (n p : ℕ) → firstOf (lines (length buf)) ≡ some (refuse n p)
-    → Writes lines file buf (Written.the-variants.Refused n p) buf
-writes-refused lines file buf n p e =
-    record {
-      says = ap (λ (o : Option Refusal). unless o (length file)) (sym e);
-      leaves = ap (λ (o : Option Refusal). after (unless o (length file)) file buf) (sym e);
-    }
+-- ---- the shape of a contract: what a call answers and leaves, by what its lines say
 
-pub writes-whole : (lines : ℕ → List Line) (file buf end : List ℕ) (n : ℕ) → firstOf (lines (length buf)) ≡ none
-    → n ≡ length file → end ≡ front file buf → Writes lines file buf (Written.the-variants.Whole n) end
-writes-whole lines file buf end n e q h =
-    record {
-      says = ap answer q ∙ ap (λ (o : Option Refusal). unless o (length file)) (sym e);
-      leaves = h ∙ ap (λ (o : Option Refusal). after (unless o (length file)) file buf) (sym e);
-    }
+module _ {A : Type 0} {lines : List Line} {before after : List ℕ} {o : Outcome A} {Right : A → Type 0} where
+  -- a call that answers by the lines
+  pub defined : (x : A) → o ≡ outcome lines x → ((q : Refusal) → firstOf lines ≡ some q → after ≡ before)
+      → (firstOf lines ≡ none → Right x) → Defined lines before after o Right
+  defined x is kept right =
+      record {
+        refuses = λ q. (
+          λ e. first-holds lines q (from q e),
+          λ h. is ∙ ap (λ (p : Option Refusal). unless p x) (holds-first lines q h),
+        );
+        unchanged = λ q e. kept q (from q e);
+        gives = λ h.
+            let free = none-first-of lines h in
+            (x, (is ∙ ap (λ (p : Option Refusal). unless p x) free, right free));
+      }
+    where
+      from : (q : Refusal) → o ≡ turnedAway q → firstOf lines ≡ some q
+      from q e = away (firstOf lines) x q (sym is ∙ e)
+
+  -- a line holds
+  pub defined-refusal : (q : Refusal) → firstOf lines ≡ some q → o ≡ turnedAway q → after ≡ before → Defined lines before after o Right
+  defined-refusal q e is kept =
+      record {
+        refuses = λ p. (
+          λ h. first-holds lines p (e ∙ same p (sym is ∙ h)),
+          λ h. is ∙ ap turnedAway (some-same (sym e ∙ holds-first lines p h)),
+        );
+        unchanged = λ p h. kept;
+        gives = λ h. absurd (some-none (sym e ∙ none-first-of lines h));
+      }
+    where
+      same : (p : Refusal) → turnedAway {A = A} q ≡ turnedAway p → some q ≡ some p
+      same p h = cc
+
+      some-same : {p : Refusal} → some q ≡ some p → q ≡ p
+      some-same h = cc
+
+      some-none : some q ≡ none → ⊥
+      some-none h = let z : _≡_ {A = ℕ} 0 1 = cc in omega arith
+
+  -- none holds
+  pub defined-answer : (x : A) → firstOf lines ≡ none → o ≡ answer x → Right x → Defined lines before after o Right
+  defined-answer x e is right =
+      defined x (is ∙ ap (λ (p : Option Refusal). unless p x) (sym e))
+      (λ q h. absurd (let z : _≡_ {A = ℕ} 0 1 = cc in omega arith)) (λ h. right)
+
+  -- what the contract tells where a line holds, and where none does
+  pub tells-refusal : Defined lines before after o Right → (q : Refusal) → firstOf lines ≡ some q
+      → (o ≡ turnedAway q) × (after ≡ before)
+  tells-refusal d q e = let h = d .refuses q .1 (first-holds lines q e) in (h, d .unchanged q h)
+
+  pub tells-answer : Defined lines before after o Right → firstOf lines ≡ none → (x : A) × ((o ≡ answer x) × Right x)
+  tells-answer d e = d .gives (none-holds lines e)
+
+  -- what an answer tells of the lines
+  pub refusal-first : Defined lines before after o Right → (q : Refusal) → o ≡ turnedAway q → firstOf lines ≡ some q
+  refusal-first d q e = holds-first lines q (d .refuses q .0 e)
+
+  pub answer-none : Defined lines before after o Right → (x : A) → o ≡ answer x → (firstOf lines ≡ none) × Right x
+  answer-none d x e = go (firstOf lines) refl
+    where
+      go : (p : Option Refusal) → firstOf lines ≡ p → (firstOf lines ≡ none) × Right x
+      go (some q) h = absurd (let f = tells-refusal d q h .0 in let z : _≡_ {A = ℕ} 0 1 = cc in omega arith)
+      go none h =
+          let g = tells-answer d h in
+          let same : g .0 ≡ x = answers (g .0) x (sym (g .1 .0) ∙ e) in
+          (h, subst Right same (g .1 .1))
+
+      answers : (y z : A) → answer y ≡ answer z → y ≡ z
+      answers y z h = cc
+
+-- a call that writes a file: it refuses and leaves the buffer alone, or the file stands at the buffer's front
+pub writes-refused : (lines : ℕ → List Line) (file before : List ℕ) (n p : ℕ) → firstOf (lines (length before)) ≡ some (refuse n p)
+    → Writes lines file before before (Written.the-variants.Refused n p)
+writes-refused lines file before n p e = defined-refusal (refuse n p) e refl refl
+
+pub writes-whole : (lines : ℕ → List Line) (file before after : List ℕ) (n : ℕ) → firstOf (lines (length before)) ≡ none
+    → n ≡ length file → after ≡ front file before → Writes lines file before after (Written.the-variants.Whole n)
+writes-whole lines file before after n e q h = defined-answer n e refl (q, h)

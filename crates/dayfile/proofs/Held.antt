@@ -1,17 +1,19 @@
 -- What is held in memory: a book and a sheet that are held and used again are the same.
 -- Assumes nothing.
 use mathlib.Core.Bool.{Bool, true, false}
-use mathlib.Core.List.{List}
+use mathlib.Core.List.{List, []}
 use mathlib.Core.Option.{Option, none, some}
 use mathlib.Core.Path.{_≡_, refl, sym, _∙_, ap, ap₂}
 use Prim.Native.Nat.{ℕ, _≤_}
 use native.Mathlib.Omega.{arith}
 use lib.ListN.{length}
-use Rattle.model.specs.Lowest.{isSome}
+use Rattle.model.specs.Lowest.{isSome, getOr}
 use Rattle.model.specs.Book.{Book, Grid, Shaped, seats, windows}
 use Rattle.dayfile.specs.Bounds.{Fit, SheetFit}
-use Rattle.dayfile.specs.Memory.{sized, sizedGrid, Holds, held, heldIf, bookIn, sheetIn}
+use Rattle.sheet.specs.Sheets.{gridOf}
+use Rattle.dayfile.specs.Memory.{sized, sizedGrid, Holds, held, bookIn, sheetIn, dayBook, daySheet}
 use Rattle.dayfile.specs.declared.Book as Memory
+use Rattle.dayfile.specs.declared.Day.{Day}
 use Rattle.dayfile.proofs.Tables.{sized-length, sized-shaped, sized-again, sized-grid-again}
 
 -- ---- what is in memory has its shape
@@ -45,27 +47,29 @@ module _ (m : Memory.Book) (caps : Grid) where
 again : (n N k : ℕ) (xs ys : List ℕ) → k ≡ n → ys ≡ sized N xs → n ≤ N → length xs ≡ n → sized k ys ≡ xs
 again n N k xs ys p q h e = ap₂ sized p q ∙ sized-again n N xs h e
 
-module _ (b : Book) (m : Memory.Book) (fit : Fit b) (h : Holds b m) where
-  grid-again : (g : Grid) → Shaped (seats b) (windows b) g → sizedGrid (m .seats) (m .windows) (held g) ≡ g
-  grid-again g s =
+module _ (b : Book) (s : Option Grid) (d : Day) (fit : Fit b) (h : Holds b s d) where
+  grid-again : (g : Grid) → Shaped (seats b) (windows b) g → sizedGrid (d .book .seats) (d .book .windows) (held g) ≡ g
+  grid-again g p =
       ap₂ (λ (x y : ℕ). sizedGrid x y (held g)) (h .seats-are) (h .windows-are)
-      ∙ sized-grid-again (seats b) (windows b) 32 24 g (fit .seats-high) (fit .windows-high) s
+      ∙ sized-grid-again (seats b) (windows b) 32 24 g (fit .seats-high) (fit .windows-high) p
 
   abbrev made : List ℕ → List ℕ → Grid → Book
   made x y z = record { classes = x; supplies = y; caps = z }
 
-  pub held-book : (caps : Grid) → caps ≡ held (b .caps) → bookIn m caps ≡ b
+  pub held-book : dayBook d ≡ b
   unfolding bookIn
-  held-book caps e =
-      ap₂ (λ (x y : List ℕ). made x y (sizedGrid (m .seats) (m .windows) caps))
-      (again (seats b) 32 (m .seats) (b .classes) (m .classes) (h .seats-are) (h .classes-are) (fit .seats-high) refl)
-      (again (windows b) 24 (m .windows) (b .supplies) (m .supplies) (h .windows-are) (h .supplies-are) (fit .windows-high) refl)
+  held-book =
+      ap₂ (λ (x y : List ℕ). made x y (sizedGrid (d .book .seats) (d .book .windows) (gridOf (d .caps))))
+      (again (seats b) 32 (d .book .seats) (b .classes) (d .book .classes) (h .seats-are) (h .classes-are) (fit .seats-high) refl)
+      (again (windows b) 24 (d .book .windows) (b .supplies) (d .book .supplies) (h .windows-are) (h .supplies-are) (fit .windows-high) refl)
       ∙ ap (made (b .classes) (b .supplies))
-      (ap (sizedGrid (m .seats) (m .windows)) e ∙ grid-again (b .caps) (fit .cap-shape))
+      (ap (sizedGrid (d .book .seats) (d .book .windows)) (h .caps-are) ∙ grid-again (b .caps) (fit .cap-shape))
 
-  pub held-sheet : (o : Option Grid) → SheetFit b o → (there : Bool) (sheet : Grid)
-      → there ≡ isSome o → sheet ≡ heldIf o → sheetIn m there sheet ≡ o
-  held-sheet none s there sheet t g = ap (λ (x : Bool). sheetIn m x sheet) t
-  held-sheet (some o) s there sheet t g =
-      ap (λ (x : Bool). sheetIn m x sheet) t
-      ∙ ap some (ap (sizedGrid (m .seats) (m .windows)) g ∙ grid-again o s)
+  pub held-sheet : SheetFit b s → daySheet d ≡ s
+  held-sheet p = go s p (h .has-sheet-is) (h .sheet-is)
+    where
+      go : (o : Option Grid) → SheetFit b o → d .«has_sheet» ≡ isSome o → gridOf (d .sheet) ≡ held (getOr o []) → daySheet d ≡ o
+      go none f t g = ap (λ (x : Bool). sheetIn (d .book) x (gridOf (d .sheet))) t
+      go (some o) f t g =
+          ap (λ (x : Bool). sheetIn (d .book) x (gridOf (d .sheet))) t
+          ∙ ap some (ap (sizedGrid (d .book .seats) (d .book .windows)) g ∙ grid-again o f)

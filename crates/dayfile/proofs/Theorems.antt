@@ -1,6 +1,5 @@
 -- The theorems of the day file, demand 2 of paper 01 among them. Each says in words what is proved.
 -- Assumes nothing.
-use mathlib.Core.Bool.{Bool}
 use mathlib.Core.List.{List}
 use mathlib.Core.Logic.{_↔_}
 use mathlib.Core.Option.{Option, none, some}
@@ -8,16 +7,15 @@ use mathlib.Core.Path.{_≡_, sym, _∙_, ap, ap₂, subst}
 use Prim.Native.Nat.{ℕ, _≤_}
 use native.Mathlib.Omega.{arith}
 use lib.ListN.{length}
-use Rattle.model.specs.Lowest.{isSome}
 use Rattle.model.specs.Book.{Book, Grid}
+use Rattle.sheet.specs.Sheets.{gridOf}
 use Rattle.dayfile.specs.Bounds.{Fit, SheetFit, TwoByte}
 use Rattle.dayfile.specs.Layout.{Bytes, bookOf, sheetOf}
 use Rattle.dayfile.specs.File.{fileOf}
 use Rattle.dayfile.specs.Table.{Refusal, firstOf, readLines, writeLines}
 use Rattle.dayfile.specs.Outcome.{turnedAway, answer, unless, readFile, NoneHolds, FirstHolds}
-use Rattle.dayfile.specs.Memory.{Holds, held, heldIf, bookIn, sheetIn, fileIn, refused, reading}
-use Rattle.dayfile.specs.declared.Book as Memory
-use Rattle.dayfile.specs.declared.Check as Check
+use Rattle.dayfile.specs.Memory.{Holds, fileIn, dayBook, daySheet}
+use Rattle.dayfile.specs.declared.Day.{Day}
 use Rattle.dayfile.proofs.Answers.{away, answered}
 use Rattle.dayfile.proofs.Lines.{none-holds, none-first-of, first-holds, holds-first}
 use Rattle.dayfile.proofs.Sound.{sound}
@@ -86,25 +84,20 @@ longest-there = (
   long-length,
 )
 
--- in memory: a book that the writer's lines take, written and read, is the same in all used entries, and so is the sheet
-pub memory-reads-back : (m : Memory.Book) (caps : Grid) (there : Bool) (sheet : Grid) (room : ℕ)
-    → firstOf (writeLines (fileIn m caps there sheet) room) ≡ none
-    → readFile (fileIn m caps there sheet) ≡ answer (bookIn m caps, sheetIn m there sheet)
+-- in memory: a day that the writer's lines take, written and read, is the same in all used entries
+pub memory-reads-back : (d : Day) (room : ℕ) → firstOf (writeLines (fileIn d) room) ≡ none
+    → readFile (fileIn d) ≡ answer (dayBook d, daySheet d)
 unfolding fileIn
-memory-reads-back m caps there sheet room e =
-    let b : Book = bookIn m caps in
-    let s : Option Grid = sheetIn m there sheet in
-    written-reads-back b s (taken-fits b s (book-shaped m caps) room e) (sheet-shaped m caps there sheet)
+memory-reads-back d room e =
+    written-reads-back (dayBook d) (daySheet d)
+    (taken-fits (dayBook d) (daySheet d) (book-shaped (d .book) (gridOf (d .caps))) room e)
+    (sheet-shaped (d .book) (gridOf (d .caps)) (d .«has_sheet») (gridOf (d .sheet)))
 
--- what the reader's five answers say together is what the file says
-pub reader-says : (f : List ℕ) (r : Check.Check) (m : Memory.Book) (caps : Grid) (there : Bool) (sheet : Grid)
-    → refused r ≡ firstOf (readLines f) → Holds (bookOf f) m → caps ≡ held (bookOf f .caps)
-    → there ≡ isSome (sheetOf f) → sheet ≡ heldIf (sheetOf f) → reading r m caps there sheet ≡ readFile f
-unfolding readFile
-reader-says f (Check.the-variants.Refused n p) m caps there sheet e h c t g =
-    ap (λ (o : Option Refusal). unless o (bookOf f, sheetOf f)) e
-reader-says f Check.the-variants.Sound m caps there sheet e h c t g =
-    let fit = fits f (sound f (sym e)) in
-    ap₂ (λ (x : Book) (y : Option Grid). answer (x, y)) (held-book (bookOf f) m fit h caps c)
-    (held-sheet (bookOf f) m fit h (sheetOf f) (sheet-fits f) there sheet t g)
-    ∙ ap (λ (o : Option Refusal). unless o (bookOf f, sheetOf f)) e
+-- a day that holds what an accepted file says: its book is the file's, and so is its sheet
+pub holds-accepted : (f : List ℕ) (d : Day) → firstOf (readLines f) ≡ none → Holds (bookOf f) (sheetOf f) d
+    → (dayBook d ≡ bookOf f) × (daySheet d ≡ sheetOf f)
+holds-accepted f d free h =
+    let fit = fits f (sound f free) in (
+      held-book (bookOf f) (sheetOf f) d fit h,
+      held-sheet (bookOf f) (sheetOf f) d fit h (sheet-fits f),
+    )

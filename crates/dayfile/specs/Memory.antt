@@ -1,5 +1,5 @@
--- A book and a sheet in memory: one grid of caps, 32 rows of 24, and one sheet of the same form, of which the front is used. And what the
--- answers of the code say.
+-- A day in memory: a book, with one grid of caps, 32 rows of 24, and one sheet of the same form, of which the front is used. And what the
+-- answers of the code say, with the contracts of the reader and of the calls that write a file.
 use mathlib.Core.Bool.{Bool, true, false}
 use mathlib.Core.List.{List, [], _++_}
 use mathlib.Core.Option.{Option, none, some}
@@ -7,12 +7,16 @@ use mathlib.Core.Path.{_≡_}
 use Prim.Native.Nat.{ℕ, _<_}
 use lib.ListN.{length, getD, drop}
 use Rattle.fairness.specs.Leximin.{table}
-use Rattle.model.specs.Lowest.{getOr}
+use Rattle.model.specs.Lowest.{getOr, isSome}
 use Rattle.model.specs.Book.{Book, Grid, seats, windows}
+use Rattle.sheet.specs.Sheets.{gridOf}
+use Rattle.dayfile.specs.Layout.{bookOf, sheetOf}
 use Rattle.dayfile.specs.File.{fileOf}
-use Rattle.dayfile.specs.Table.{Line, Refusal, refuse}
-use Rattle.dayfile.specs.Outcome.{Outcome, turnedAway, answer, outcome}
+use Rattle.dayfile.specs.Table.{Line, Refusal, refuse, readLines}
+use Rattle.dayfile.specs.Outcome.{Outcome, turnedAway, answer, Defined}
 use Rattle.dayfile.specs.declared.Book as Memory
+use Rattle.dayfile.specs.declared.Day.{Day}
+use Rattle.dayfile.specs.declared.Reading.{Reading}
 use Rattle.dayfile.specs.declared.Found.{Found}
 use Rattle.dayfile.specs.declared.Found.the-variants.{At, Nothing}
 use Rattle.dayfile.specs.declared.Check as Check
@@ -26,26 +30,9 @@ sized n xs = table n (λ i. getD xs i 0)
 unfoldable pub sizedGrid : ℕ → ℕ → Grid → Grid
 sizedGrid n m g = table n (λ i. sized m (getD g i []))
 
--- ---- from a file into memory: unused cells are 0
+-- ---- what is in memory: only used entries count
 
--- a book in memory holds a book
-pub record Holds (b : Book) (m : Memory.Book) : Type 0 where
-  pub seats-are : m .seats ≡ seats b
-  pub windows-are : m .windows ≡ windows b
-  pub classes-are : m .classes ≡ sized 32 (b .classes)
-  pub supplies-are : m .supplies ≡ sized 24 (b .supplies)
-
--- a grid in memory
-abbrev pub held : Grid → Grid
-held g = sizedGrid 32 24 g
-
--- a sheet in memory; where there is none all cells are 0
-abbrev pub heldIf : Option Grid → Grid
-heldIf s = held (getOr s [])
-
--- ---- from memory: only used entries count
-
--- the book that is in memory
+-- the book that is in memory, its caps beside it
 unfoldable pub bookIn : Memory.Book → Grid → Book
 bookIn m caps =
     record {
@@ -59,9 +46,35 @@ abbrev pub sheetIn : Memory.Book → Bool → Grid → Option Grid
 sheetIn m true sheet = some (sizedGrid (m .seats) (m .windows) sheet)
 sheetIn m false sheet = none
 
--- the file of what is in memory
-unfoldable pub fileIn : Memory.Book → Grid → Bool → Grid → List ℕ
-fileIn m caps there sheet = fileOf (bookIn m caps) (sheetIn m there sheet)
+-- the book of a day, its sheet or its absence, and the file of both
+abbrev pub dayBook : Day → Book
+dayBook d = bookIn (d .book) (gridOf (d .caps))
+
+abbrev pub daySheet : Day → Option Grid
+daySheet d = sheetIn (d .book) (d .«has_sheet») (gridOf (d .sheet))
+
+unfoldable pub fileIn : Day → List ℕ
+fileIn d = fileOf (dayBook d) (daySheet d)
+
+-- ---- from a file into memory: unused cells are 0
+
+-- a grid in memory
+abbrev pub held : Grid → Grid
+held g = sizedGrid 32 24 g
+
+-- a day in memory holds a book, and a sheet or its absence; where there is none all cells are 0
+pub record Holds (b : Book) (s : Option Grid) (d : Day) : Type 0 where
+  pub seats-are : d .book .seats ≡ seats b
+  pub windows-are : d .book .windows ≡ windows b
+  pub classes-are : d .book .classes ≡ sized 32 (b .classes)
+  pub supplies-are : d .book .supplies ≡ sized 24 (b .supplies)
+  pub caps-are : gridOf (d .caps) ≡ held (b .caps)
+  pub has-sheet-is : d .«has_sheet» ≡ isSome s
+  pub sheet-is : gridOf (d .sheet) ≡ held (getOr s [])
+
+-- no seats and no windows: a day that holds it has 0 everywhere
+abbrev pub noBook : Book
+noBook = record { classes = []; supplies = []; caps = [] }
 
 -- ---- what answers say
 
@@ -82,21 +95,24 @@ abbrev pub written : Written.Written → Outcome ℕ
 written (Written.the-variants.Refused n p) = turnedAway (refuse n p)
 written (Written.the-variants.Whole n) = answer n
 
--- what the reader's five answers say together
-abbrev pub reading : Check.Check → Memory.Book → Grid → Bool → Grid → Outcome (Book × Option Grid)
-reading (Check.the-variants.Refused n p) m caps there sheet = turnedAway (refuse n p)
-reading Check.the-variants.Sound m caps there sheet = answer (bookIn m caps, sheetIn m there sheet)
+-- what the reader answers
+abbrev pub readingAs : Check.Check → Day → Outcome Day
+readingAs (Check.the-variants.Refused n p) d = turnedAway (refuse n p)
+readingAs Check.the-variants.Sound d = answer d
+
+abbrev pub reading : Reading → Outcome Day
+reading r = readingAs (r .check) (r .day)
+
+-- the reader's contract: down its lines, the day of the file; at a refusal a day of zeros
+pub record Reads (file : List ℕ) (r : Reading) : Type 0 where
+  pub defined : Defined (readLines file) [] [] (reading r) (Holds (bookOf file) (sheetOf file))
+  pub zeros : (q : Refusal) → reading r ≡ turnedAway q → Holds noBook none (r .day)
 
 -- a file at the front of a buffer; the bytes after it keep their values
 unfoldable pub front : List ℕ → List ℕ → List ℕ
 front file buf = file ++ drop (length file) buf
 
--- an output buffer afterwards: untouched at a refusal, and else with the file at its front
-abbrev pub after : {A : Type 0} → Outcome A → List ℕ → List ℕ → List ℕ
-after (turnedAway q) file buf = buf
-after (answer x) file buf = front file buf
-
--- a call that writes a file: down its lines for a buffer of that length, the refusal, or else the file's length and the file at the front
-pub record Writes (lines : ℕ → List Line) (file buf : List ℕ) (r : Written.Written) (end : List ℕ) : Type 0 where
-  pub says : written r ≡ outcome (lines (length buf)) (length file)
-  pub leaves : end ≡ after (outcome (lines (length buf)) (length file)) file buf
+-- the contract of a call that writes a file: down its lines for a buffer of that length, the file's length, with the file at the front
+abbrev pub Writes : (lines : ℕ → List Line) (file before after : List ℕ) → Written.Written → Type 0
+Writes lines file before after r =
+    Defined (lines (length before)) before after (written r) (λ n. (n ≡ length file) × (after ≡ front file before))

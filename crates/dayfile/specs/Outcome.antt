@@ -1,5 +1,6 @@
--- What a call answers: a refusal, or what it gives. And what a file says.
+-- What a call answers: a refusal, or what it gives; what a file says; and the one shape of every public call's contract.
 use mathlib.Core.List.{List, [], _∷_, _++_}
+use mathlib.Core.Logic.{_↔_}
 use mathlib.Core.Option.{Option, none, some}
 use mathlib.Core.Path.{_≡_}
 use Prim.Native.Nat.{ℕ}
@@ -34,3 +35,10 @@ pub record FirstHolds (ls : List Line) (q : Refusal) : Type 0 where
   pub after : List Line
   pub split : ls ≡ before ++ (line (q .number) (some (q .at)) ∷ after)
   pub passed : NoneHolds before
+
+-- the contract of a call that goes down these lines of the table, answers o and leaves `after` in its buffer: it refuses exactly with the
+-- first line that holds, and then the buffer is as it was; where no line holds it gives an answer that is right
+pub record Defined {A : Type 0} (lines : List Line) (before after : List ℕ) (o : Outcome A) (Right : A → Type 0) : Type 0 where
+  pub refuses : (q : Refusal) → (o ≡ turnedAway q) ↔ FirstHolds lines q
+  pub unchanged : (q : Refusal) → o ≡ turnedAway q → after ≡ before
+  pub gives : NoneHolds lines → (x : A) × ((o ≡ answer x) × Right x)

@@ -183,9 +183,17 @@ bufferLines room need = line 16 (line16 room need) ∷ []
 unfoldable pub readLines : List ℕ → List Line
 readLines f = contentsLines f ++ (lengthLines f ++ (valueLines f ++ optionLines f))
 
+-- the marker's but for its buffer, on a file
+unfoldable pub sheetLines : List ℕ → List Line
+sheetLines f = readLines f ++ markerLines f
+
+-- what the marker asks of its buffer: three bytes for each of 31 moves
+abbrev pub movesRoom : ℕ
+movesRoom = 93
+
 -- the marker, on a file and a buffer of `room` bytes
 unfoldable pub markLines : List ℕ → ℕ → List Line
-markLines f room = readLines f ++ (markerLines f ++ bufferLines room 93)
+markLines f room = sheetLines f ++ bufferLines room movesRoom
 
 -- the length of the file that the planner writes: the book's with a sheet, and its caps stand here for any sheet
 unfoldable pub plannedLength : Book → ℕ

@@ -7,6 +7,7 @@ ghost use Prim.Native.Nat.{_+_, _<_};
 ghost use Rattle.model.specs.Lowest.{when};
 ghost use Rattle.dayfile.specs.Table.{within, line, firstOf};
 ghost use Rattle.dayfile.specs.Memory.{found, refused};
+use sheet::Sheet;
 
 // The last kind that is known.
 pub const KNOWN: usize = 4;
@@ -29,13 +30,27 @@ pub enum Written {
     Whole { length: usize },
 }
 
-// A book in memory, but for its caps: a field cannot be an array of arrays.
+// A book in memory, but for its caps.
 #[repr(C)]
 pub struct Book {
     pub seats: usize,
     pub windows: usize,
     pub classes: [u16; 32],
     pub supplies: [u16; 24],
+}
+
+// What a day file holds: a book with its caps, and a sheet or its absence. A field cannot be an array of arrays, so the caps are rows too.
+pub struct Day {
+    pub book: Book,
+    pub caps: Sheet,
+    pub has_sheet: bool,
+    pub sheet: Sheet,
+}
+
+// What the reader answers: a refusal and a day of zeros, or the day of the file.
+pub struct Reading {
+    pub check: Check,
+    pub day: Day,
 }
 
 // Low to high, both in.

@@ -1,4 +1,4 @@
--- A loop that writes the moves of a route, three bytes each. Assumes nothing.
+-- A loop that writes the moves of an exchange path, three bytes each. Assumes nothing.
 use mathlib.Core.Path.{_≡_, refl, ap, ap₂, sym, _∙_}
 use mathlib.Core.List.{List, [], _∷_, _++_, map}
 use Prim.Native.Nat.{ℕ, zero, suc, _+_, _*_, _≤_, _<_}
@@ -10,10 +10,10 @@ use Rattle.fairness.specs.Exchange as fairness
 use Rattle.dayfile.specs.Memory.{front}
 use Rattle.sheet.specs.declared.Move.{Move}
 use Rattle.sheet.specs.Sheets.{moveOf}
-use Rattle.exchange.specs.declared.Route.{Route}
+use Rattle.exchange.specs.declared.ExchangePath.{ExchangePath}
+use Rattle.exchange.specs.Paths.{InByte, Writable}
 use Rattle.model.specs.Marks.{moveBytes}
 use Rattle.model.proofs.Moves.{move-bytes-length}
-use Rattle.marker.specs.Steps.{InByte, Writable}
 
 -- ---- bytes of lists of moves
 
@@ -60,7 +60,7 @@ one-more ms i d b b₀ hi hb hl e =
     let n₂ : 3 * i + 2 ≡ suc (suc (3 * i)) = omega arith in
     rw (n₁, n₂, lq, grown) (stored ∙ ap₂ (λ (f r : List ℕ). f ++ vs ++ r) head back)
 
--- ---- a route that can be written
+-- ---- a path that can be written
 
 all-at : (ms : List Move) (i n : ℕ) (d : Move) → i < n → i < length ms → fairness.All InByte (map moveOf (take n ms)) →
     InByte (moveOf (getD ms i d))
@@ -69,12 +69,12 @@ all-at (m ∷ ms) i zero d l h a = absurd (omega arith)
 all-at (m ∷ ms) zero (suc n) d l h a = a .0
 all-at (m ∷ ms) (suc i) (suc n) d l h a = all-at ms i n d (omega arith) (omega arith) (a .1)
 
-module _ (route : Route) (w : Writable route) where
-  pub inside : (i : ℕ) → i < route .count → i < length (route .moves)
+module _ (path : ExchangePath) (w : Writable path) where
+  pub inside : (i : ℕ) → i < path .count → i < length (path .moves)
   inside i l =
-      let e = length-map (take (route .count) (route .moves)) moveOf in
-      let n = length-take (route .count) (route .moves) in
+      let e = length-map (take (path .count) (path .moves)) moveOf in
+      let n = length-take (path .count) (path .moves) in
       omega (arith, w .counted, e, n)
 
-  pub byte-at : (i : ℕ) (d : Move) → i < route .count → InByte (moveOf (getD (route .moves) i d))
-  byte-at i d l = all-at (route .moves) i (route .count) d l (inside i l) (w .small)
+  pub byte-at : (i : ℕ) (d : Move) → i < path .count → InByte (moveOf (getD (path .moves) i d))
+  byte-at i d l = all-at (path .moves) i (path .count) d l (inside i l) (w .small)
