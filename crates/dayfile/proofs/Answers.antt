@@ -76,7 +76,7 @@ module _ {A : Type 0} {lines : List Line} {before after : List ℕ} {o : Outcome
         gives = λ h. absurd (some-none (sym e ∙ none-first-of lines h));
       }
     where
-      same : (p : Refusal) → turnedAway {A = A} q ≡ turnedAway p → some q ≡ some p
+      same : (p : Refusal) → _≡_ {A = Outcome A} (turnedAway q) (turnedAway p) → some q ≡ some p
       same p h = cc
 
       some-same : {p : Refusal} → some q ≡ some p → q ≡ p
@@ -106,15 +106,15 @@ module _ {A : Type 0} {lines : List Line} {before after : List ℕ} {o : Outcome
   pub answer-none : Defined lines before after o Right → (x : A) → o ≡ answer x → (firstOf lines ≡ none) × Right x
   answer-none d x e = go (firstOf lines) refl
     where
+      answers : (y z : A) → _≡_ {A = Outcome A} (answer y) (answer z) → y ≡ z
+      answers y z h = cc
+
       go : (p : Option Refusal) → firstOf lines ≡ p → (firstOf lines ≡ none) × Right x
       go (some q) h = absurd (let f = tells-refusal d q h .0 in let z : _≡_ {A = ℕ} 0 1 = cc in omega arith)
       go none h =
           let g = tells-answer d h in
           let same : g .0 ≡ x = answers (g .0) x (sym (g .1 .0) ∙ e) in
           (h, subst Right same (g .1 .1))
-
-      answers : (y z : A) → answer y ≡ answer z → y ≡ z
-      answers y z h = cc
 
 -- a call that writes a file: it refuses and leaves the buffer alone, or the file stands at the buffer's front
 pub writes-refused : (lines : ℕ → List Line) (file before : List ℕ) (n p : ℕ) → firstOf (lines (length before)) ≡ some (refuse n p)

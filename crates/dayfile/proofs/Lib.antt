@@ -16,4 +16,5 @@ pub mod Accepted
 pub mod Lengths
 pub mod Held
 pub mod Theorems
+pub mod Readings
 pub mod Examples

@@ -75,15 +75,19 @@ fieldsAt f at n = table n (λ i. field f (at + 2 * i))
 unfoldable pub gridAt : List ℕ → ℕ → ℕ → ℕ → Grid
 gridAt f at n m = table n (λ i. fieldsAt f (at + 2 * (i * m)) m)
 
+-- the grid that is the body of entry e
+abbrev pub gridIn : List ℕ → ℕ → Grid
+gridIn f e = gridAt f (start f e) (seatsIn f) (windowsIn f)
+
 -- kind 1: each seat's class; kind 2: each window's supply; kind 3: caps
 unfoldable pub bookOf : List ℕ → Book
 bookOf f =
     record {
       classes = fieldsAt f (start f 0) (seatsIn f);
       supplies = fieldsAt f (start f 1) (windowsIn f);
-      caps = gridAt f (start f 2) (seatsIn f) (windowsIn f);
+      caps = gridIn f 2;
     }
 
 -- kind 4: the sheet, laid out as kind 3; it may be missing
 unfoldable pub sheetOf : List ℕ → Option Grid
-sheetOf f = andThen (entryOf f 4) (λ e. some (gridAt f (start f e) (seatsIn f) (windowsIn f)))
+sheetOf f = andThen (entryOf f 4) (λ e. some (gridIn f e))

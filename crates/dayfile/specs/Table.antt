@@ -21,6 +21,10 @@ within low high x = leb low x && leb x high
 abbrev pub offset : (ℕ → ℕ) → Option ℕ → Option ℕ
 offset at found = andThen found (λ i. some (at i))
 
+-- the first entry that is not right, by the offset of one of its fields
+abbrev pub wrongEntry : (ℕ → ℕ) → (List ℕ → ℕ → Bool) → List ℕ → Option ℕ
+wrongEntry at right f = offset at (lowest (count f) (λ e. not (right f e)))
+
 -- the last kind that is known
 abbrev pub known : ℕ
 known = 4
@@ -45,11 +49,15 @@ kindRight f e = cond (ltb e 3) (eqb (kind f e) (e + 1)) (within (kind f (e - 1) 
 
 -- 4: kinds not 1, 2, 3, (4) in order | that kind field
 unfoldable pub line4 : List ℕ → Option ℕ
-line4 f = offset kindAt (lowest (count f) (λ e. not (kindRight f e)))
+line4 f = wrongEntry kindAt kindRight f
+
+-- a body starts where the part before it ends
+abbrev pub startRight : List ℕ → ℕ → Bool
+startRight f e = eqb (start f e) (ends f e)
 
 -- 5: start not where the part before ends | that start field
 unfoldable pub line5 : List ℕ → Option ℕ
-line5 f = offset startAt (lowest (count f) (λ e. not (eqb (start f e) (ends f e))))
+line5 f = wrongEntry startAt startRight f
 
 -- 6: last body does not end at the file's end | file length
 unfoldable pub line6 : List ℕ → Option ℕ
@@ -75,7 +83,7 @@ gridRight f e = cond (within 3 4 (kind f e)) (eqb (size f e) (2 * (seatsIn f * w
 
 -- 9: caps or sheet: not 2 × seats × windows | that length field
 unfoldable pub line9 : List ℕ → Option ℕ
-line9 f = offset sizeAt (lowest (count f) (λ e. not (gridRight f e)))
+line9 f = wrongEntry sizeAt gridRight f
 
 -- ---- values
 

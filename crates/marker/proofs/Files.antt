@@ -32,7 +32,7 @@ use Rattle.marker.specs.Marking.{Marks}
 use Rattle.marker.specs.Wastes.{cellsIn}
 use Rattle.marker.specs.Steps.{MarkedAs, Markable}
 use Rattle.marker.proofs.Accepted.{accepted-lawful, has-sheet-of}
-use Rattle.marker.proofs.Readings.{read-day}
+use Rattle.dayfile.proofs.Readings.{read-day}
 
 -- the sheet that is in memory, where there is one
 cells-of : (m : Memory.Book) (there : Bool) (sheet : Sheet) (s : Grid) → sheetIn m there (gridOf sheet) ≡ some s → cellsIn m sheet ≡ s

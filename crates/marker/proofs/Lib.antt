@@ -6,7 +6,6 @@ pub mod Coding
 pub mod Fair
 pub mod Memory
 pub mod Accepted
-pub mod Readings
 pub mod Files
 -- demands 1 and 3
 pub mod Taken

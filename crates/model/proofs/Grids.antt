@@ -1,30 +1,15 @@
 -- Grids and functions: every sheet of functions is that of a grid, on the cells that are used. Assumes nothing.
-use mathlib.Core.Path.{_≡_, refl, sym, ap, ap₂, _∙_}
-use mathlib.Core.List.{List, [], _∷_}
-use Prim.Native.Nat.{ℕ, zero, suc, _+_, _<_}
+use mathlib.Core.Path.{_≡_, sym, ap, _∙_}
+use mathlib.Core.List.{List, []}
+use Prim.Native.Nat.{ℕ, _+_, _<_}
 use native.Mathlib.Nat.{le-trans, le-of-eq}
-use native.Mathlib.Omega.{arith}
 use lib.ListN.{length, getD}
 use Rattle.fairness.specs.Instance.{Instance, Sheet, Feasible, placed, total, height}
 use Rattle.fairness.specs.Leximin.{table, sort, NoHigher, noHigher?, levels, profile}
 use Rattle.fairness.proofs.Sums.{sum-eq}
-use Rattle.fairness.proofs.Lists.{table-length}
+use Rattle.lists.proofs.Tables.{table-length}
+pub use Rattle.lists.proofs.Tables.{table-at, table-same}
 use Rattle.model.specs.Book.{Grid, cell, Shaped}
-
--- ---- tables
-
-module _ {A : Type 0} where
-  pub table-at : (n : ℕ) (f : ℕ → A) (i : ℕ) (d : A) → i < n → getD (table n f) i d ≡ f i
-  unfolding table
-  table-at zero f i d l = absurd (omega arith)
-  table-at (suc n) f zero d l = refl
-  table-at (suc n) f (suc i) d l = table-at n (λ k. f (suc k)) i d (omega arith)
-
-  pub table-same : (n : ℕ) (f g : ℕ → A) → ((i : ℕ) → i < n → f i ≡ g i) → table n f ≡ table n g
-  unfolding table
-  table-same zero f g e = refl
-  table-same (suc n) f g e =
-      ap₂ (λ x xs. x ∷ xs) (e 0 (omega arith)) (table-same n (λ i. f (suc i)) (λ i. g (suc i)) (λ i l. e (suc i) (omega arith)))
 
 -- ---- a grid of a function
 

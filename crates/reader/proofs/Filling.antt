@@ -1,43 +1,23 @@
--- The loop that fills an array of N cells from the front: m of its n values, as many as there is room for.
+-- An array of blank cells that a loop has filled from the front, as far as there is room.
 -- Assumes nothing.
-use mathlib.Core.List.{List}
-use mathlib.Core.Path.{_≡_}
-use Prim.Native.Nat.{ℕ, _+_, _≤_, _<_, zero-le}
-use native.Mathlib.Omega.{arith}
-use lib.ListN.{set, replicate}
+use mathlib.Core.List.{List, []}
+use mathlib.Core.Path.{_≡_, refl, subst}
+use Prim.Native.Nat.{ℕ, _≤_}
+use lib.ListN.{getD, replicate}
 use Rattle.fairness.specs.Leximin.{table}
-use Rattle.dayfile.proofs.Tables.{filled, filled-none, filled-more, filled-done}
+use Rattle.dayfile.specs.Memory.{sized, sizedGrid, held}
+use Rattle.lists.proofs.Arrays.{Filled, Least, filled-made}
 
--- the lesser of n and N
-abbrev pub Least : ℕ → ℕ → ℕ → Type 0
-Least n N m = (m ≤ n) × (m ≤ N) × ((k : ℕ) → k < N → k < n → k < m)
+-- m of the c elements of g, in an array of l cells
+pub filled-blank : {A B : Type 0} (p : A → B) (z : A) (g : ℕ → A) {d : B} (c : ℕ) {n l m i : ℕ} {old xs : List B}
+    → n ≡ l → old ≡ replicate l (p z) → Filled (λ k x. x ≡ p (g k)) d n m old i xs → m ≤ i → Least c n m
+    → xs ≡ table l (λ k. p (getD (table c g) k z))
+filled-blank {B = B} p z g {d} c {n} {l} {m} {i} {old} {xs} e blank f h least =
+    let sizes = subst (λ (k : ℕ). Filled (λ k x. x ≡ p (g k)) d k m old i xs) e f in
+    let cells = subst (λ (o : List B). Filled (λ k x. x ≡ p (g k)) d l m o i xs) blank sizes in
+    filled-made p z g c cells h (subst (λ (k : ℕ). Least c k m) e least)
 
-module _ {A B : Type 0} (p : A → B) (z : A) (N : ℕ) (g : ℕ → A) where
-  -- i cells are filled
-  pub record Filling (n m : ℕ) (a : List B) (i : ℕ) : Type 0 where
-    pub inside : i ≤ m
-    pub most : m ≤ n
-    pub room : m ≤ N
-    pub all : (k : ℕ) → k < N → k < n → k < m
-    pub cells : a ≡ filled p z N (table i g)
-
-  pub filling-first : {n m : ℕ} → Least n N m → Filling n m (replicate N (p z)) 0
-  filling-first l =
-      record { inside = zero-le; most = l .0; room = l .1; all = l .2; cells = filled-none p z N g }
-
-  pub filling-again : {n m i : ℕ} {a : List B} {x : B} → Filling n m a i → i < m → x ≡ p (g i) → Filling n m (set a i x) (i + 1)
-  filling-again {n} {m} {i} f l e =
-      let r = f .room in
-      record {
-        inside = omega arith;
-        most = f .most;
-        room = r;
-        all = f .all;
-        cells = filled-more p z N g (f .cells) e (omega arith);
-      }
-
-  pub filling-done : {n m i : ℕ} {a : List B} → Filling n m a i → m ≤ i → a ≡ filled p z N (table n g)
-  filling-done {n} {m} {i} f l =
-      let q = f .most in
-      let r = f .inside in
-      filled-done p z N g (f .cells) (λ k h j. (let s = f .all k h j in omega arith)) (omega arith)
+-- blank rows are a grid of zeros
+pub blank-rows : held [] ≡ replicate 32 (sized 24 [])
+unfolding sizedGrid table
+blank-rows = refl

@@ -1,2 +1,3 @@
+-- Laws of the reader.
+pub mod Products
 pub mod Filling
-pub mod Sheets

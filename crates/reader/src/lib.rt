@@ -1,70 +1,56 @@
-// Reads a day file: whether it is turned away, and the book and the sheet that it holds, as arrays whose unused cells are 0.
-// Every call takes any file; of a file that is turned away the fields are given as they stand.
+// Reads a day file: the refusal of the first line of the table that holds, or the day that it holds, in arrays whose unused cells are 0.
 ghost use mathlib.Core.Path.{_≡_};
-ghost use Rattle.model.specs.Lowest.{isSome};
+ghost use mathlib.Core.Option.{none};
 ghost use Rattle.dayfile.specs.Layout.{bookOf, sheetOf};
 ghost use Rattle.dayfile.specs.Table.{firstOf, readLines};
-ghost use Rattle.dayfile.specs.Memory.{refused, Holds, held, heldIf};
-use arrays::array24;
-use arrays::array32;
-use arrays::grid;
-use dayfile::Book;
+ghost use Rattle.dayfile.specs.Memory.{refused, Holds, Reads, noBook};
+use contents::check_contents;
+use day::day_of;
+use day::no_day;
 use dayfile::Check;
-use dayfile::Found;
-use fields::entry_of;
-use fields::seats;
-use fields::start;
-use fields::windows;
+use dayfile::Day;
+use dayfile::Reading;
+use lengths::check_lengths;
+use options::check_options;
+use values::check_values;
 
 pub mod arrays;
+pub mod contents;
+pub mod day;
+pub mod entries;
+pub mod fields;
+pub mod lengths;
+pub mod options;
+pub mod values;
 
-// The refusal, if there is one.
+// The refusal of the first line that holds, down the table: contents, lengths, values, and the kinds that may be missing.
 pub fn read_check(file: &[u8]) -> Check
     ensures { λ r. ⌜ refused r ≡ firstOf (readLines (now (file .entry))) ⌝ }
 {
-    refusals::read_check(file)
-}
-
-// The book, but for its caps.
-pub fn read_book(file: &[u8]) -> Book
-    ensures { λ r. ⌜ Holds (bookOf (now (file .entry))) r ⌝ }
-{
-    let seats = seats(file);
-    let windows = windows(file);
-    let classes = array32(file, start(file, 0), seats);
-    let supplies = array24(file, start(file, 1), windows);
-    Book {
-        seats,
-        windows,
-        classes,
-        supplies,
+    if let Check::Refused { number, at } = check_contents(file) {
+        return Check::Refused { number, at };
     }
-}
-
-// The caps.
-pub fn read_caps(file: &[u8]) -> [[u16; 24]; 32]
-    ensures { λ r. ⌜ r ≡ held (bookOf (now (file .entry)) .caps) ⌝ }
-{
-    grid(file, start(file, 2), seats(file), windows(file))
-}
-
-// Whether there is a sheet.
-pub fn has_sheet(file: &[u8]) -> bool
-    ensures { λ r. ⌜ r ≡ isSome (sheetOf (now (file .entry))) ⌝ }
-{
-    if let Found::At(_) = entry_of(file, 4) {
-        true
-    } else {
-        false
+    if let Check::Refused { number, at } = check_lengths(file) {
+        return Check::Refused { number, at };
     }
+    if let Check::Refused { number, at } = check_values(file) {
+        return Check::Refused { number, at };
+    }
+    check_options(file)
 }
 
-// The sheet; all cells are 0 where there is none.
-pub fn read_sheet(file: &[u8]) -> [[u16; 24]; 32]
-    ensures { λ r. ⌜ r ≡ heldIf (sheetOf (now (file .entry))) ⌝ }
+// What a file says: a refusal and a day of zeros, or its day.
+pub fn read(file: &[u8]) -> Reading
+    ensures { λ r. ⌜ Reads (now (file .entry)) r ⌝ }
 {
-    if let Found::At(e) = entry_of(file, 4) {
-        return grid(file, start(file, e), seats(file), windows(file));
+    if let Check::Refused { number, at } = read_check(file) {
+        return Reading {
+            check: Check::Refused { number, at },
+            day: no_day(),
+        };
     }
-    [[0u16; 24]; 32]
+    Reading {
+        check: Check::Sound,
+        day: day_of(file),
+    }
 }

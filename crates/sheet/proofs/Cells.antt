@@ -7,6 +7,7 @@ use native.Mathlib.Decide.{ℕ-discrete}
 use native.Mathlib.Omega.{arith}
 use lib.ListN.{length, getD, set, take, replicate, length-set, length-take, length-map, List·getD-map}
 use lib.Seq.{getD-set-same, getD-set-other, getD-take, ext-getD, take-nil}
+use Rattle.lists.proofs.Arrays.{zeros-at}
 use Rattle.fairness.specs.Sums.{sum}
 use Rattle.fairness.proofs.Sums.{sum-eq}
 use Rattle.model.specs.Book.{Grid, cell, Shaped}
@@ -29,14 +30,9 @@ pub credit-is : (s : Sheet) → credit s ≡ cell (gridOf s)
 credit-is s = fun-ext (λ i. fun-ext (λ j. credit-cell s i j))
 
 -- rows of zeros
-zeros : (m j : ℕ) → _≡_ {A = ℕ} (getD (replicate m 0) j 0) 0
-zeros zero j = refl
-zeros (suc m) zero = refl
-zeros (suc m) (suc j) = zeros m j
-
 pub all-zero : (n m i j : ℕ) → credit (record { rows = replicate n (record { cells = replicate m 0 }) }) i j ≡ 0
 all-zero zero m i j = refl
-all-zero (suc n) m zero j = zeros m j
+all-zero (suc n) m zero j = zeros-at m j
 all-zero (suc n) m (suc i) j = all-zero n m i j
 
 -- ---- grids of one shape

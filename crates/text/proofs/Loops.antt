@@ -1,47 +1,14 @@
--- The loops' invariants, and what a turn of each does.
+-- The loop that stores digits: its invariant, and what a turn does.
 use mathlib.Core.Path.{_≡_, refl, sym, ap, subst, _∙_}
 use mathlib.Core.List.{List, [], _∷_, _++_}
 use Prim.Native.Nat.{ℕ, suc, _+_, _-_, _/_, _%_, _≤_, _<_}
-use native.Mathlib.Numerals.{add-one}
 use native.Mathlib.Omega.{arith}
 use lib.ListN.{length, take, drop, getD, set, length-set}
 use lib.Seq.{take-suc, take-at, take-take, take-length, drop-cons, drop-length, getD-at, getD-take, length-take-le}
-use Rattle.text.specs.Text.{digits, putAt, Stored}
-use Rattle.text.proofs.Buffer.{put-last, put-first}
+use Rattle.lists.specs.Buffers.{putAt, Stored}
+use Rattle.lists.proofs.Buffers.{put-first}
+use Rattle.text.specs.Text.{digits}
 use Rattle.text.proofs.Digits.{digits-length}
-
--- ---- copying, when i bytes are done
-
-pub record Copied (b₀ : List ℕ) (at : ℕ) (src b : List ℕ) (i : ℕ) : Type 0 where
-  pub within : i ≤ length src
-  pub same : length b ≡ length b₀
-  pub stored : b ≡ putAt b₀ at (take i src)
-
-pub copied-none : (b₀ : List ℕ) (at : ℕ) (src : List ℕ) → Copied b₀ at src b₀ 0
-unfolding putAt
-copied-none b₀ at src = record { within = omega arith; same = refl; stored = refl }
-
-pub copied-more : {b₀ : List ℕ} {at : ℕ} {src b : List ℕ} {i : ℕ}
-    → i < length src → Copied b₀ at src b i → Copied b₀ at src (set b (at + i) (getD src i 0)) (i + 1)
-copied-more {b₀} {at} {src} {b} {i} h c =
-    let v = getD src i 0 in
-    let here : length (take i src) ≡ i = length-take-le i src (c .within) in
-    let last : set (putAt b₀ at (take i src)) (at + i) v ≡ putAt b₀ at (take i src ++ (v ∷ [])) =
-    rw here at (put-last b₀ at (take i src) v) in
-    record {
-      within = omega arith;
-      same = length-set b (at + i) v ∙ c .same;
-      stored = ap (λ (l : List ℕ). set l (at + i) v) (c .stored) ∙ last
-          ∙ ap (putAt b₀ at) (sym (ap (λ (k : ℕ). take k src) (add-one i) ∙ take-suc src i 0 h));
-    }
-
-pub copied-all : {b₀ : List ℕ} {at : ℕ} {src b : List ℕ} {i : ℕ} → length src ≤ i → Copied b₀ at src b i → Stored b₀ at src b (at + i)
-copied-all {b₀} {at} {src} {b} {i} h c =
-    let e : i ≡ length src = omega (arith, c .within) in
-    record {
-      buffer = c .stored ∙ ap (putAt b₀ at) (ap (λ (k : ℕ). take k src) e ∙ take-length src);
-      place = ap (λ (k : ℕ). at + k) e;
-    }
 
 -- ---- digits from the last to the first, when i are still to do
 

@@ -1,13 +1,13 @@
--- Text as bytes, numbers in decimal, paper 01's opening times, and what it is to store text in an output buffer.
-use mathlib.Core.Path.{_≡_}
+-- Text as bytes, numbers in decimal, and paper 01's opening times.
 use mathlib.Core.Bool.{Bool, true, false}
 use mathlib.Core.List.{List, [], _∷_, _++_}
-use Prim.Native.Nat.{ℕ, zero, suc, _+_, _/_, _%_, _≤_}
+use Prim.Native.Nat.{ℕ, zero, suc, _+_, _/_, _%_}
 use Prim.Native.Char.{code}
 use Prim.Native.String.{String, [] as empty, _∷_ as _then_}
 use lib.Dec.{ltb}
-use lib.ListN.{length, getD}
-use lib.Seq.{sets}
+use lib.ListN.{getD}
+unfoldable pub use Rattle.lists.specs.Buffers.{putAt}
+pub use Rattle.lists.specs.Buffers.{Room, Stored}
 
 -- the bytes of a text of ASCII characters
 abbrev pub ascii : String → List ℕ
@@ -52,18 +52,3 @@ openingTimes =
 -- when a window opens, counted from 0: hours and minutes read as one number
 unfoldable pub openingTime : ℕ → ℕ
 openingTime j = getD openingTimes j 0
-
--- ---- output buffers
-
--- the buffer with the bytes stored one after the other from a place on; every other byte is kept
-unfoldable pub putAt : List ℕ → ℕ → List ℕ → List ℕ
-putAt buffer at bytes = sets buffer at bytes
-
--- the buffer is long enough for that
-pub record Room (buffer : List ℕ) (at : ℕ) (bytes : List ℕ) : Type 0 where
-  pub fits : at + length bytes ≤ length buffer
-
--- that was done, and the next byte's place is given
-pub record Stored (before : List ℕ) (at : ℕ) (bytes after : List ℕ) (next : ℕ) : Type 0 where
-  pub buffer : after ≡ putAt before at bytes
-  pub place : next ≡ at + length bytes

@@ -1,7 +1,8 @@
 // Text in an output buffer: bytes, numbers in decimal, and times of the day.
 ghost use mathlib.Core.Path.{_≡_};
 ghost use Prim.Native.Nat.{_<_};
-ghost use Rattle.text.specs.Text.{digits, widthOf, decimal, fourDigits, openingTime, Room, Stored};
+ghost use Rattle.lists.specs.Buffers.{Room, Stored};
+ghost use Rattle.text.specs.Text.{digits, widthOf, decimal, fourDigits, openingTime};
 
 const OPENING_TIMES: [u16; 24] = [
     800,

@@ -2,7 +2,7 @@
 use borrow.Author.Needs.{needs}
 use denote.Ref.{now}
 use Rattle.dayfile.proofs.Answers.{refuses, passes}
-use Rattle.marker.proofs.Readings.{read-check}
+use Rattle.dayfile.proofs.Readings.{read-check}
 use Rattle.marker.proofs.Files.{refused-marks, has-room, markable, marked-marks}
 use Rattle.marker.proofs.mark_reading.Statement.{statement}
 use Rattle.marker.proofs.mark_reading.Tie as tie

@@ -1,13 +1,13 @@
 -- `reach::columns` meets its contract.
 use borrow.Author.Needs.{needs}
-use mathlib.Core.Path.{_≡_, refl}
+use mathlib.Core.Path.{refl}
 use mathlib.Core.List.{List}
-use Prim.Native.Nat.{ℕ, _-_, _≤_, _<_}
-use native.Mathlib.Omega.{arith}
-use lib.ListN.{length, length-set}
+use mathlib.Core.Logic.{_↔_}
+use Prim.Native.Nat.{ℕ, _-_, _<_}
+use Rattle.lists.proofs.Arrays.{Filled, filled-first, filled-next}
 use Rattle.masks.specs.Sets.{In}
-use Rattle.reach.specs.Graphs.{setAt, Rows}
-use Rattle.reach.proofs.Collect.{rows-first, rows-next}
+use Rattle.reach.specs.Graphs.{setAt}
+use Rattle.reach.proofs.Collect.{rows-end}
 use Rattle.reach.proofs.columns.Statement.{statement}
 use Rattle.reach.proofs.columns.Tie as tie
 
@@ -16,26 +16,16 @@ abbrev Has : List ℕ → ℕ → ℕ → Type 0
 Has rows w i = (i < 32) × In w (setAt rows i)
 
 abbrev Inv-loop : tie.InvT-loop
-Inv-loop rows sets₀ w₀ sets w = (w ≤ 24) × ((length sets ≡ 24) × Rows w (Has rows) sets)
+Inv-loop rows sets₀ w₀ sets w = Filled (λ w v. (i : ℕ) → In i v ↔ Has rows w i) 0 24 24 sets₀ w sets
 
 abbrev μ-loop : tie.MeasureT-loop
 μ-loop rows sets₀ w₀ sets w = 24 - w
 
-loop-holds : tie.Need-loop-holds Inv-loop μ-loop
-loop-holds c = (search needs, (refl, rows-first (Has (c .args .rows)) 24))
-
 loop-again : tie.Need-loop-again Inv-loop μ-loop
-loop-again c =
-    let at = c .before .before .loop in
-    let H : ℕ → ℕ → Type 0 = Has (c .before .before .before .args .rows) in
-    let next = rows-next H (at .w) _ (at .sets) (omega arith) (at .inv .1 .1) (c .column .ensures) in
-    (search needs, (simp length-set (at .inv .1 .0), next))
+loop-again c = filled-next (c .before .before .loop .inv) (search needs) (c .column .ensures)
 
 returns : tie.Need-returns Inv-loop μ-loop
-returns c =
-    let at = c .before .loop in
-    let e : at .w ≡ 24 = omega arith in
-    rw e at (at .inv .1 .1)
+returns c = rows-end (c .before .loop .inv) (search needs)
 
 pub columns-spec : {M : Type 1} → statement M
 columns-spec =
@@ -43,7 +33,7 @@ columns-spec =
     (tie.spec
     Inv-loop
     μ-loop
-    loop-holds
+    (λ c. filled-first refl (search needs))
     (λ c κs. search needs)
     (λ c. search needs)
     (λ c. search needs)

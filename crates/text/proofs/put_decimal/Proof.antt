@@ -1,7 +1,7 @@
 -- `text::put_decimal` meets its contract.
 use borrow.Author.Needs.{needs}
 use mathlib.Core.Path.{sym}
-use Rattle.text.proofs.Buffer.{room-as, stored-as}
+use Rattle.lists.proofs.Buffers.{room-as, stored-as}
 use Rattle.text.proofs.Digits.{decimal-in}
 use Rattle.text.proofs.put_decimal.Statement.{statement}
 use Rattle.text.proofs.put_decimal.Tie as tie

@@ -1,12 +1,15 @@
 -- `marker::moves::write_moves` meets its contract. Each turn writes one move.
 use borrow.Author.Needs.{needs}
-use Prim.Native.Nat.{_-_, _≤_}
+use Prim.Native.Nat.{_-_, _*_, _≤_}
 use native.Mathlib.Omega.{arith}
-use mathlib.Core.Path.{_≡_, refl}
-use lib.ListN.{length, length-set}
-use Rattle.dayfile.specs.Memory.{front}
+use mathlib.Core.Path.{_≡_}
+use lib.ListN.{length, getD, length-set}
+use Rattle.lists.specs.Buffers.{Stored}
+use Rattle.lists.proofs.Buffers.{stored-length}
 use Rattle.sheet.specs.declared.Move.{Move}
-use Rattle.marker.proofs.Coding.{coded, nothing-yet, one-more, inside, byte-at}
+use Rattle.exchange.specs.Paths.{InByte}
+use Rattle.sheet.specs.Sheets.{moveOf}
+use Rattle.marker.proofs.Coding.{coded, coded-none, coded-more, coded-all, move-inside, byte-at}
 use Rattle.marker.proofs.moves.write_moves.Statement.{statement}
 use Rattle.marker.proofs.moves.write_moves.Tie as tie
 
@@ -14,85 +17,37 @@ abbrev zeroMove : Move
 zeroMove = record { window = 0; giver = 0; taker = 0 }
 
 abbrev Inv-loop : tie.InvT-loop
-Inv-loop out₀ count moves i₀ out i = (i ≤ count) × (length out ≡ length out₀) × (out ≡ front (coded i moves) out₀)
+Inv-loop out₀ count moves i₀ out i = (i ≤ count) × Stored out₀ 0 (coded i moves) out (3 * i)
 
 abbrev μ-loop : tie.MeasureT-loop
 μ-loop out₀ count moves i₀ out i = count - i
 
 loop-holds : tie.Need-loop-holds Inv-loop μ-loop
-loop-holds c = (search needs, refl, nothing-yet (c .before .args .path .moves) _)
+loop-holds c = (search needs, coded-none (c .before .args .path .moves) _)
 
-mul-m : tie.Need-mul-m Inv-loop μ-loop
-mul-m c = search needs
+-- the move of a turn
+turn : (c : tie.In-loop Inv-loop μ-loop) → let start = c .before .before .before in
+    InByte (moveOf (getD (start .args .path .moves) (c .before .loop .i) zeroMove))
+turn c =
+    let start = c .before .before .before in
+    byte-at (start .args .path) (start .pre .0) (c .before .loop .i) zeroMove (c .loop-test .taken)
 
-array-copy-out-m : tie.Need-array-copy-out-m Inv-loop μ-loop
-array-copy-out-m c = search needs
-
-cast-out : tie.Need-cast-out Inv-loop μ-loop
-cast-out c =
-    let l = c .before .before .before in
-    let b = l .before .before in
-    omega (arith, byte-at (b .args .path) (b .pre .0) (l .loop .i) zeroMove (c .before .before .loop-test .taken) .window)
-
-add-out : tie.Need-add-out Inv-loop μ-loop
-add-out c =
-    let l = c .before .before .before in
-    let b = l .before .before in
-    omega (arith, byte-at (b .args .path) (b .pre .0) (l .loop .i) zeroMove (c .before .before .loop-test .taken) .window)
-
-slice-write-out : tie.Need-slice-write-out Inv-loop μ-loop
-slice-write-out c = omega arith
-
-cast-out-2 : tie.Need-cast-out-2 Inv-loop μ-loop
-cast-out-2 c =
-    let l = c .before .before .before .before in
-    let b = l .before .before in
-    omega (arith, byte-at (b .args .path) (b .pre .0) (l .loop .i) zeroMove (c .before .before .before .loop-test .taken) .giver)
-
-add-out-2 : tie.Need-add-out-2 Inv-loop μ-loop
-add-out-2 c =
-    let l = c .before .before .before .before in
-    let b = l .before .before in
-    omega (arith, byte-at (b .args .path) (b .pre .0) (l .loop .i) zeroMove (c .before .before .before .loop-test .taken) .giver)
-
-slice-write-out-2 : tie.Need-slice-write-out-2 Inv-loop μ-loop
-slice-write-out-2 c = simp length-set (omega arith)
-
-cast-out-3 : tie.Need-cast-out-3 Inv-loop μ-loop
-cast-out-3 c =
-    let l = c .before .before .before .before .before in
-    let b = l .before .before in
-    omega (arith, byte-at (b .args .path) (b .pre .0) (l .loop .i) zeroMove (c .before .before .before .before .loop-test .taken) .taker)
-
-add-out-4 : tie.Need-add-out-4 Inv-loop μ-loop
-add-out-4 c =
-    let l = c .before .before .before .before .before in
-    let b = l .before .before in
-    omega (arith, byte-at (b .args .path) (b .pre .0) (l .loop .i) zeroMove (c .before .before .before .before .loop-test .taken) .taker)
-
-slice-write-out-3 : tie.Need-slice-write-out-3 Inv-loop μ-loop
-slice-write-out-3 c = simp length-set (omega arith)
+-- the buffer's length in a turn
+same : (c : tie.In-loop Inv-loop μ-loop) → length (c .before .loop .out) ≡ length (c .before .before .before .args .out .now)
+same c = stored-length (c .before .loop .inv .1)
 
 loop-again : tie.Need-loop-again Inv-loop μ-loop
 loop-again c =
-    let l = c .before .before .before .before .before in
-    let b = l .before .before in
-    let i = l .loop .i in
-    let more = c .before .before .before .before .loop-test .taken in (
-      omega arith,
-      simp length-set (l .loop .inv .1),
-      one-more (b .args .path .moves) i zeroMove (l .loop .out) (b .args .out .now) (inside (b .args .path) (b .pre .0) i more)
-          (omega arith) (l .loop .inv .1) (l .loop .inv .2),
-    )
-
-same-length : tie.Need-same-length Inv-loop μ-loop
-same-length c = search needs
+    let test = c .before .before .before .before in
+    let start = test .before .before .before in
+    let here = move-inside (start .args .path) (start .pre .0) (test .before .loop .i) (test .loop-test .taken) in
+    (search needs, coded-more (start .args .path .moves) (test .before .loop .i) zeroMove here (test .before .loop .inv .1))
 
 returns : tie.Need-returns Inv-loop μ-loop
 returns c =
-    let l = c .before in
-    let e : l .loop .i ≡ l .before .before .args .path .count = omega arith in
-    rw (← e) (l .loop .inv .2)
+    let l = c .before .loop in
+    let start = c .before .before .before in
+    coded-all (start .args .path) (start .pre .0) (l .i) (c .loop-test .left) (l .inv .0) (start .pre .1) (l .inv .1)
 
 pub write-moves-spec : {M : Type 1} → statement M
 write-moves-spec =
@@ -101,22 +56,22 @@ write-moves-spec =
     Inv-loop
     μ-loop
     loop-holds
-    mul-m
-    array-copy-out-m
     (λ c. search needs)
-    cast-out
-    add-out
-    slice-write-out
-    cast-out-2
-    add-out-2
     (λ c. search needs)
-    slice-write-out-2
-    cast-out-3
-    add-out-4
     (λ c. search needs)
-    slice-write-out-3
+    (λ c. omega (arith, turn (c .before .before) .window))
+    (λ c. omega (arith, turn (c .before .before) .window))
+    (λ c. omega (arith, same (c .before .before)))
+    (λ c. omega (arith, turn (c .before .before .before) .giver))
+    (λ c. omega (arith, turn (c .before .before .before) .giver))
+    (λ c. search needs)
+    (λ c. simp length-set (omega (arith, same (c .before .before .before))))
+    (λ c. omega (arith, turn (c .before .before .before .before) .taker))
+    (λ c. omega (arith, turn (c .before .before .before .before) .taker))
+    (λ c. search needs)
+    (λ c. simp length-set (omega (arith, same (c .before .before .before .before))))
     (λ c. search needs)
     (λ c. search needs)
     loop-again
-    same-length
+    (λ c. stored-length (c .before .loop .inv .1))
     returns)

@@ -1,0 +1,69 @@
+-- Tables: the list of f 0, f 1, .., n of them.
+use mathlib.Core.List.{List, [], _∷_, _++_, map}
+use mathlib.Core.Path.{_≡_, refl, sym, _∙_, ap, ap₂}
+use Prim.Native.Nat.{ℕ, zero, suc, _+_, _≤_, _<_}
+use native.Mathlib.Numerals.{add-one}
+use native.Mathlib.Omega.{arith}
+use lib.ListN.{length, take, getD, replicate, List·getD-eq-default}
+use lib.Seq.{ext-getD, getD-take, length-take-le}
+use Rattle.fairness.specs.Leximin.{table}
+use Rattle.fairness.proofs.Lists.{table-length}
+pub use Rattle.fairness.proofs.Lists.{table-length, table-All}
+
+module _ {A : Type 0} where
+  -- ---- the element at an index
+
+  pub table-at : (n : ℕ) (f : ℕ → A) (i : ℕ) (d : A) → i < n → getD (table n f) i d ≡ f i
+  unfolding table
+  table-at zero f i d l = absurd (omega arith)
+  table-at (suc n) f zero d l = refl
+  table-at (suc n) f (suc i) d l = table-at n (λ k. f (suc k)) i d (omega arith)
+
+  -- past the end
+  pub table-out : (n : ℕ) (f : ℕ → A) (i : ℕ) (d : A) → n ≤ i → getD (table n f) i d ≡ d
+  table-out n f i d h = List·getD-eq-default (table n f) d (let e = table-length n f in omega arith)
+
+  -- ---- when lists are tables
+
+  pub table-same : (n : ℕ) (f g : ℕ → A) → ((i : ℕ) → i < n → f i ≡ g i) → table n f ≡ table n g
+  unfolding table
+  table-same zero f g e = refl
+  table-same (suc n) f g e =
+      ap₂ (λ x xs. x ∷ xs) (e 0 (omega arith)) (table-same n (λ i. f (suc i)) (λ i. g (suc i)) (λ i l. e (suc i) (omega arith)))
+
+  -- a list of n elements, each that of f
+  pub table-is : (n : ℕ) (f : ℕ → A) (xs : List A) (d : A) → length xs ≡ n → ((i : ℕ) → i < n → getD xs i d ≡ f i) → xs ≡ table n f
+  table-is n f xs d e h =
+      ext-getD d xs (table n f) (e ∙ sym (table-length n f)) (λ i l. h i (omega arith) ∙ sym (table-at n f i d (omega arith)))
+
+  -- the elements of a list
+  pub table-all : (n : ℕ) (xs : List A) (d : A) → length xs ≡ n → table n (λ i. getD xs i d) ≡ xs
+  table-all n xs d e = sym (table-is n (λ i. getD xs i d) xs d e (λ i l. refl))
+
+  -- the first of them
+  pub table-take : (n : ℕ) (xs : List A) (d : A) → n ≤ length xs → table n (λ i. getD xs i d) ≡ take n xs
+  table-take n xs d h =
+      sym (table-is n (λ i. getD xs i d) (take n xs) d (length-take-le n xs h) (λ i l. getD-take n xs i d l))
+
+  -- one element n times
+  pub table-replicate : (n : ℕ) (x : A) → replicate n x ≡ table n (λ i. x)
+  unfolding table
+  table-replicate zero x = refl
+  table-replicate (suc n) x = ap (λ (xs : List A). x ∷ xs) (table-replicate n x)
+
+  -- ---- one element more
+
+  table-suc : (n : ℕ) (f : ℕ → A) → table (suc n) f ≡ table n f ++ (f n ∷ [])
+  unfolding table
+  table-suc zero f = refl
+  table-suc (suc n) f = ap (λ (xs : List A). f 0 ∷ xs) (table-suc n (λ i. f (suc i)))
+
+  pub table-more : (n : ℕ) (f : ℕ → A) → table (n + 1) f ≡ table n f ++ (f n ∷ [])
+  table-more n f = ap (λ (k : ℕ). table k f) (add-one n) ∙ table-suc n f
+
+  -- ---- each element made into another
+
+  pub table-map : {B : Type 0} (n : ℕ) (f : ℕ → A) (g : A → B) → map g (table n f) ≡ table n (λ i. g (f i))
+  unfolding table
+  table-map zero f g = refl
+  table-map {B = B} (suc n) f g = ap (λ (xs : List B). g (f 0) ∷ xs) (table-map n (λ i. f (suc i)) g)

@@ -1,0 +1,62 @@
+// Lines 10 to 12: values.
+ghost use mathlib.Core.Path.{_≡_};
+ghost use Prim.Native.Nat.{_<_};
+ghost use Rattle.dayfile.specs.Table.{outside, line10, line11, line12, firstOf, valueLines};
+ghost use Rattle.dayfile.specs.Memory.{found, refused};
+use crate::fields::field;
+use crate::fields::seats;
+use crate::fields::start;
+use crate::fields::windows;
+use dayfile::Check;
+use dayfile::Found;
+use dayfile::first_of;
+use dayfile::within;
+
+// The first of n fields from an offset on that is not low to high. Both bytes of a field lie before the end.
+fn outside(file: &[u8], at: usize, n: usize, low: usize, high: usize) -> Found
+    requires { ⌜ (at < 65536) × (n < 2000000000) ⌝ }
+    ensures { λ r. ⌜ found r ≡ outside (now (file .entry)) at n low high ⌝ }
+{
+    let end = at + 2 * n;
+    let mut p = at;
+    while p + 1 < end {
+        if !within(low, high, field(file, p)) {
+            return Found::At(p);
+        }
+        p += 2;
+    }
+    Found::Nothing
+}
+
+// Line 10: class not 1 to 8.
+fn class_outside(file: &[u8]) -> Found
+    ensures { λ r. ⌜ found r ≡ line10 (now (file .entry)) ⌝ }
+{
+    outside(file, start(file, 0), seats(file), 1, 8)
+}
+
+// Line 11: supply above 4,095.
+fn supply_outside(file: &[u8]) -> Found
+    ensures { λ r. ⌜ found r ≡ line11 (now (file .entry)) ⌝ }
+{
+    outside(file, start(file, 1), windows(file), 0, 4095)
+}
+
+// Line 12: cap above 4,095.
+fn cap_outside(file: &[u8]) -> Found
+    ensures { λ r. ⌜ found r ≡ line12 (now (file .entry)) ⌝ }
+{
+    outside(file, start(file, 2), seats(file) * windows(file), 0, 4095)
+}
+
+// Lines 10 to 12.
+pub fn check_values(file: &[u8]) -> Check
+    ensures { λ r. ⌜ refused r ≡ firstOf (valueLines (now (file .entry))) ⌝ }
+{
+    first_of(
+        10,
+        class_outside(file),
+        supply_outside(file),
+        cap_outside(file),
+    )
+}
