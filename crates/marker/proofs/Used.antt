@@ -28,3 +28,7 @@ module _ (m : Memory.Book) where
     pub supply-in : (j : ℕ) → j < m .windows → getD (bookIn m caps .supplies) j 0 ≡ getD (m .supplies) j 0
     unfolding bookIn
     supply-in j lj = sized-at (m .windows) (m .supplies) j lj
+
+    pub class-in : (i : ℕ) → i < m .seats → getD (bookIn m caps .classes) i 0 ≡ getD (m .classes) i 0
+    unfolding bookIn
+    class-in i li = sized-at (m .seats) (m .classes) i li

@@ -6,8 +6,8 @@ use native.Mathlib.Numerals.{add-one}
 use native.Mathlib.Omega.{arith}
 use native.Mathlib.Decide.{decLt}
 use lib.ListN.{length, length-append}
-use Rattle.text.specs.Text.{putAt, Room, Stored}
-use Rattle.text.proofs.Buffer.{room-next, stored-next, stored-as, stored-length}
+use Rattle.lists.specs.Buffers.{putAt, Room, Stored}
+use Rattle.lists.proofs.Buffers.{room-next, stored-next, stored-as, stored-length}
 use Rattle.listing.specs.Listing.{lines}
 
 -- of n lines j are stored

@@ -1,10 +1,10 @@
--- `listing::put_window_lines` meets its contract.
+-- `listing::lines::put_window_lines` meets its contract.
 use borrow.Author.Needs.{needs}
 use Prim.Native.Nat.{_-_}
 use Rattle.listing.specs.Listing.{windowAt, windowLines}
-use Rattle.listing.proofs.Lines.{Growing, growing-none, growing-room, growing-more, growing-all}
-use Rattle.listing.proofs.put_window_lines.Statement.{statement}
-use Rattle.listing.proofs.put_window_lines.Tie as tie
+use Rattle.listing.proofs.Growing.{Growing, growing-none, growing-room, growing-more, growing-all}
+use Rattle.listing.proofs.lines.put_window_lines.Statement.{statement}
+use Rattle.listing.proofs.lines.put_window_lines.Tie as tie
 
 abbrev Inv-loop : tie.InvT-loop
 Inv-loop out₀ at windows supplies placed next₀ j₀ out next j = Growing out₀ at (windowAt supplies placed) windows out next j

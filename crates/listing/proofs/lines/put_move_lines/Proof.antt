@@ -1,10 +1,10 @@
--- `listing::put_move_lines` meets its contract.
+-- `listing::lines::put_move_lines` meets its contract.
 use borrow.Author.Needs.{needs}
 use Prim.Native.Nat.{_-_}
 use Rattle.listing.specs.Listing.{moveAt, moveLines}
-use Rattle.listing.proofs.Lines.{Growing, growing-none, growing-room, growing-more, growing-all}
-use Rattle.listing.proofs.put_move_lines.Statement.{statement}
-use Rattle.listing.proofs.put_move_lines.Tie as tie
+use Rattle.listing.proofs.Growing.{Growing, growing-none, growing-room, growing-more, growing-all}
+use Rattle.listing.proofs.lines.put_move_lines.Statement.{statement}
+use Rattle.listing.proofs.lines.put_move_lines.Tie as tie
 
 abbrev Inv-loop : tie.InvT-loop
 Inv-loop out₀ at moves count next₀ k₀ out next k = Growing out₀ at (moveAt moves) count out next k

@@ -1,10 +1,10 @@
--- `listing::put_seat_lines` meets its contract.
+-- `listing::lines::put_seat_lines` meets its contract.
 use borrow.Author.Needs.{needs}
 use Prim.Native.Nat.{_-_}
 use Rattle.listing.specs.Listing.{seatAt, seatLines}
-use Rattle.listing.proofs.Lines.{Growing, growing-none, growing-room, growing-more, growing-all}
-use Rattle.listing.proofs.put_seat_lines.Statement.{statement}
-use Rattle.listing.proofs.put_seat_lines.Tie as tie
+use Rattle.listing.proofs.Growing.{Growing, growing-none, growing-room, growing-more, growing-all}
+use Rattle.listing.proofs.lines.put_seat_lines.Statement.{statement}
+use Rattle.listing.proofs.lines.put_seat_lines.Tie as tie
 
 abbrev Inv-loop : tie.InvT-loop
 Inv-loop out₀ at seats classes totals next₀ i₀ out next i = Growing out₀ at (seatAt classes totals) seats out next i

@@ -1,27 +1,31 @@
--- `listing::put_book_lines` meets its contract.
+-- `listing::lines::put_book_lines` meets its contract.
 use borrow.Author.Needs.{needs}
-use Rattle.text.proofs.Buffer.{room-first, room-next, stored-next}
+use Rattle.lists.proofs.Buffers.{room-first, room-next, stored-next}
 use Rattle.listing.specs.Listing.{bookLines}
-use Rattle.listing.proofs.put_book_lines.Statement.{statement}
-use Rattle.listing.proofs.put_book_lines.Tie as tie
+use Rattle.listing.proofs.lines.put_book_lines.Statement.{statement}
+use Rattle.listing.proofs.lines.put_book_lines.Tie as tie
 
 put-head-line-requires : tie.Need-put-head-line-requires
 unfolding bookLines
-put-head-line-requires c κs = room-first _ _ (room-first _ _ (c .before .before .pre .1))
+put-head-line-requires c κs =
+    let start = c .before .before .before .before .before .before in
+    room-first _ _ (room-first _ _ (start .pre .1))
 
 put-window-lines-requires : tie.Need-put-window-lines-requires
 unfolding bookLines
 put-window-lines-requires c κs =
     let first = c .before .before .before in
-    (search needs, room-next _ _ (room-first _ _ (first .before .before .before .pre .1)) (first .put-head-line .ensures))
+    let start = first .before .before .before .before .before .before .before in
+    (search needs, room-next _ _ (room-first _ _ (start .pre .1)) (first .put-head-line .ensures))
 
 put-seat-lines-requires : tie.Need-put-seat-lines-requires
 unfolding bookLines
 put-seat-lines-requires c κs =
     let second = c .before .before .before in
     let first = second .before .before .before .before in
+    let start = first .before .before .before .before .before .before .before in
     let two = stored-next (first .put-head-line .ensures) (second .put-window-lines .ensures) in
-    (search needs, room-next _ _ (first .before .before .before .pre .1) two)
+    (search needs, room-next _ _ (start .pre .1) two)
 
 returns : tie.Need-returns
 unfolding bookLines
