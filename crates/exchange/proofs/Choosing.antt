@@ -1,123 +1,94 @@
--- From sets in memory to what paper 01's rule picks. Assumes nothing.
+-- From what is in memory to what paper 01's rule picks. Assumes nothing.
 use mathlib.Core.Path.{_≡_, refl, sym, ap, _∙_}
-use mathlib.Core.Bool.{true, _&&_}
-use mathlib.Core.Logic.{_⊎_, inl, inr}
+use mathlib.Core.Bool.{true, false, true≢false}
+use mathlib.Core.Logic.{_↔_}
 use mathlib.Core.List.{List, [], _∷_}
-use Prim.Native.Nat.{ℕ, _+_, _-_, _*_, _<_, _≤_, min}
-use native.Mathlib.Nat.{mul-le-mul-right}
+use Prim.Native.Nat.{ℕ, min, _<_, _≤_}
 use native.Mathlib.Decide.{decLt}
 use native.Mathlib.Omega.{arith}
-use lib.Dec.{eqb, ltb}
 use lib.ListN.{length}
-use borrow.Author.Tests.{ltb-true}
-use Rattle.fairness.specs.Instance.{Instance}
-use Rattle.fairness.specs.Exchange as fairness
-use Rattle.fairness.specs.Exchange.{improves, tiesWrongly, improvesAt, tiesAt}
-use Rattle.fairness.proofs.Bools.{or-parts, and-parts}
+use Rattle.fairness.specs.Instance.{Instance, Sheet}
+use Rattle.fairness.specs.Exchange.{Move, Path, Exchange, improvesAt, tiesAt}
 use Rattle.fairness.proofs.Theorems.{path-within, improves-apart, ties-apart}
 use Rattle.model.proofs.Tests.{not-true}
 use Rattle.masks.specs.Sets.{bit, In}
-use Rattle.masks.proofs.Laws.{bit-lt}
+use Rattle.masks.proofs.Laws.{bit-lt, bit-zero}
 use Rattle.reach.specs.declared.Graph.{Graph}
-use Rattle.reach.specs.Graphs.{setAt, Rows, Sound, Apart, Reach, Layers, Donor, First}
-use Rattle.reach.proofs.Members.{out-zero}
-use Rattle.exchange.specs.declared.Exchange.{Exchange}
+use Rattle.reach.specs.Graphs.{Reached}
+use Rattle.exchange.specs.declared.ExchangePath.{ExchangePath}
 use Rattle.exchange.specs.declared.Scores.{Scores}
-use Rattle.exchange.specs.declared.Rule.{Rule}
-use Rattle.exchange.specs.declared.Rule.the-variants.{Improves, TiesWrongly}
-use Rattle.exchange.specs.Held.{Scored, Drawn}
-use Rattle.exchange.specs.Tests.{testOf, testBy, testOn}
-use Rattle.exchange.specs.Search.{movesOf, Nearest, Chosen}
+use Rattle.exchange.specs.declared.Kind.{Kind}
+use Rattle.exchange.specs.declared.Kind.the-variants.{None, Improving, WronglyTied}
+use Rattle.exchange.specs.Paths.{movesOf, Chosen}
+use Rattle.exchange.specs.Tests.{testOf, testBy, scoreAt, Scored, Wants}
+use Rattle.exchange.specs.Steps.{Drawn, Donor, FirstPair, Nearest}
 use Rattle.exchange.proofs.Bridge.{within-reach, reach-seat}
 
--- ---- no seat wants itself
+-- no seat wants itself
+pub test-apart : (kind : Kind) (I : Instance) (S : Sheet) (g : ℕ) → testOf kind I S g g ≡ true → ⊥
+test-apart None I S g e = true≢false (sym e)
+test-apart Improving I S g e = improves-apart I S g e
+test-apart WronglyTied I S g e = ties-apart I S g e
 
-by-apart : (rule : Rule) (h w p : ℕ) → testBy rule h w p h w p ≡ true → ⊥
-unfolding improves tiesWrongly
-by-apart Improves h w p t = go (or-parts _ _ t)
-  where
-    go : (ltb (h * w) ((h - 1) * w) ≡ true) ⊎ ((eqb (h * w) ((h - 1) * w) && ltb w w) ≡ true) → ⊥
-    go (inl e) =
-        let m : h - 1 ≤ h = omega arith in
-        omega (arith, ltb-true (h * w) ((h - 1) * w) e, mul-le-mul-right w m)
-    go (inr e) = omega (arith, ltb-true w w (and-parts (eqb (h * w) ((h - 1) * w)) (ltb w w) e .1))
-by-apart TiesWrongly h w p t =
-    let last = and-parts (eqb w w) (eqb h (h + 1) && ltb p p) t .1 in
-    omega (arith, ltb-true p p (and-parts (eqb h (h + 1)) (ltb p p) last .1))
+-- ---- the donors of a receiver, as sets
 
-pub test-apart : (rule : Rule) (I : Instance) (S : ℕ → ℕ → ℕ) (g : ℕ) → testOf rule I S g g ≡ true → ⊥
-test-apart Improves I S g = improves-apart I S g
-test-apart TiesWrongly I S g = ties-apart I S g
+module _ (kind : Kind) (scores : Scores) (graph : Graph) (seats g wanted reached both : ℕ)
+    (wants : (l : ℕ) → In l wanted ↔ Wants kind scores seats g l) where
+  -- nobody is wanted
+  pub none-wanted : wanted ≡ 0 → (l : ℕ) → Donor kind scores graph seats g l → ⊥
+  none-wanted z l d = omega (arith, rw z at (wants l .1 (d .1)), bit-zero l)
 
--- the donors that a rule wants for each receiver
-abbrev pub Wants : Rule → Scores → ℕ → List ℕ → Type 0
-Wants rule scores seats wants = Rows seats (λ g l. (l < seats) × (testOn rule scores g l ≡ true)) wants
+  module _ (reaches : (l : ℕ) → In l reached ↔ Reached graph g l) (shared : (l : ℕ) → bit both l ≡ min (bit wanted l) (bit reached l)) where
+    pub donor-in : (l : ℕ) → Donor kind scores graph seats g l → In l both
+    donor-in l d = omega (arith, shared l, wants l .1 (d .1), reaches l .1 (d .0))
 
-pub wants-apart : (rule : Rule) (scores : Scores) (seats : ℕ) (wants : List ℕ) → Wants rule scores seats wants → Apart wants
-wants-apart rule scores seats wants w g = out-zero _ _ (λ p. by-apart rule _ _ _ (w g g .0 p .1 .1))
+    pub in-donor : (l : ℕ) → In l both → Donor kind scores graph seats g l
+    in-donor l p = (reaches l .0 (omega (arith, shared l, bit-lt reached l)), wants l .0 (omega (arith, shared l, bit-lt wanted l)))
 
--- ---- the donors that a receiver reaches and wants, as a set
+    -- nobody who is reached is wanted
+    pub none-shared : both ≡ 0 → (l : ℕ) → Donor kind scores graph seats g l → ⊥
+    none-shared z l d = omega (arith, rw z at (donor-in l d), bit-zero l)
 
-module _ (takes wants sets : List ℕ) (g both : ℕ) (soon : (r l : ℕ) → Reach takes r g l → Reach takes 31 g l) (layers : Layers takes g sets)
-    (shared : (k : ℕ) → bit both k ≡ min (bit (setAt sets 31) k) (bit (setAt wants g) k)) where
-  pub donor-in : (l : ℕ) → Donor takes wants g l → In l both
-  donor-in l d =
-      let here : In l (setAt sets 31) = layers 31 (omega arith) l .1 (soon (d .moves) l (d .reached)) in
-      omega (arith, shared l, d .wanted)
+-- ---- scores and paths of an instance
 
-  pub in-donor : (l : ℕ) → In l both → Donor takes wants g l
-  in-donor l p =
-      let here : In l (setAt sets 31) = omega (arith, shared l, bit-lt (setAt sets 31) l) in
-      record { moves = 31; reached = layers 31 (omega arith) l .0 here; wanted = omega (arith, shared l, bit-lt (setAt wants g) l) }
-
--- ---- scores are those of the instance
-
-module _ (I : Instance) (S : ℕ → ℕ → ℕ) (seats : ℕ) (scores : Scores) (s : Scored I S seats scores) where
-  test-same : (rule : Rule) (g l : ℕ) → g < seats → l < seats → testOf rule I S g l ≡ testOn rule scores g l
+module _ (I : Instance) (S : Sheet) (scores : Scores) (s : Scored I S scores) where
+  -- scores are those of the instance
+  test-same : (kind : Kind) (g l : ℕ) → g < I .seats → l < I .seats → testOf kind I S g l ≡ testBy kind (scoreAt scores g) (scoreAt scores l)
   unfolding improvesAt tiesAt
-  test-same Improves g l a b =
+  test-same None g l a b = refl
+  test-same Improving g l a b =
       rw (s .heights-are g a, s .weights-are g a, s .heights-are l b, s .weights-are l b) refl
-  test-same TiesWrongly g l a b =
+  test-same WronglyTied g l a b =
       rw (s .heights-are g a, s .weights-are g a, s .positions-are g a, s .heights-are l b, s .weights-are l b, s .positions-are l b) refl
 
-  module _ (rule : Rule) (graph : Graph) (wants : List ℕ) (d : Drawn I S seats graph) (sound : Sound graph)
-      (w : Wants rule scores seats wants) where
-    -- a path to a donor that the rule wants
-    donor-of : (g l : ℕ) (ms : List fairness.Move) → g < seats → fairness.Path I S g l ms → testOf rule I S g l ≡ true
-        → Donor (graph .takes) wants g l
+  module _ (kind : Kind) (graph : Graph) (d : Drawn I S graph) (seats : ℕ) (n : I .seats ≡ seats) where
+    -- a path to a donor that is wanted
+    donor-of : (g l : ℕ) (ms : List Move) → g < seats → Path I S g l ms → testOf kind I S g l ≡ true → Donor kind scores graph seats g l
     donor-of g l ms h p t =
-        let r = within-reach I S seats graph d sound (length ms) g l (path-within I S g l ms p) in
-        let there = reach-seat I S seats graph d sound (length ms) g l (omega (arith, d .seats-are)) r in
-        let k : l < seats = omega (arith, there, d .seats-are) in
-        record { moves = length ms; reached = r; wanted = w g l .1 (h, (k, sym (test-same rule g l h k) ∙ t)) }
+        let r = within-reach I S graph d (length ms) g l (path-within I S g l ms p) in
+        let there = reach-seat I S graph d (length ms) g l (omega arith) r in
+        ((length ms, r), (omega (arith, there), sym (test-same kind g l (omega arith) there) ∙ t))
 
-    -- the seat that a receiver wants passes
-    donor-passes : (g l : ℕ) → Donor (graph .takes) wants g l → testOf rule I S g l ≡ true
-    donor-passes g l x = let q = w g l .0 (x .wanted) in test-same rule g l (q .0) (q .1 .0) ∙ q .1 .1
-
-    pub chosen : (g : ℕ) (x : Exchange) → First (graph .takes) wants seats g → Nearest graph wants g x
-        → Chosen I S (testOf rule I S) g (x .donor) (movesOf (x .route))
-    chosen g x f n = record {
-      seat = omega (arith, f .seat, d .seats-are);
-      passes = donor-passes g (x .donor) (n .donor-is);
-      path = n .path I S seats d;
-      least = λ ns p. go ns p (decLt (length ns) (x .route .count));
-      lowest-donor = λ k ns h p. not-true _ (λ t. n .lowest k h (donor-of g k ns (f .seat) p t));
-      first-receiver = λ h k ns l p. not-true _ (λ t. f .earlier h k l (donor-of h k ns (omega (arith, f .seat)) p t));
+    pub chosen : (g l : ℕ) (x : ExchangePath) → FirstPair kind scores graph seats g l → Nearest kind graph g l x
+        → Chosen I S (testOf kind I S) g l (movesOf x)
+    chosen g l x f nearest = record {
+      seat = omega (arith, f .seat);
+      passes = test-same kind g l (omega (arith, f .seat)) (omega (arith, f .donor .1 .0)) ∙ f .donor .1 .1;
+      path = nearest .path I S d;
+      least = λ ns p. go ns p (decLt (length ns) (x .count));
+      lowest-donor = λ k ns h p. not-true _ (λ t. f .lowest k h (donor-of g k ns (f .seat) p t));
+      first-receiver = λ h k ns b p. not-true _ (λ t. f .earlier h k b (donor-of h k ns (omega (arith, f .seat)) p t));
     }
       where
-        go : (ns : List fairness.Move) → fairness.Path I S g (x .donor) ns → Dec (length ns < x .route .count)
-            → length (movesOf (x .route)) ≤ length ns
-        go ns p (yes h) =
-            let w = path-within I S g (x .donor) ns p in
-            absurd (n .fewest (length ns) h (within-reach I S seats graph d sound (length ns) g (x .donor) w))
-        go ns p (no h) = omega (arith, n .counted)
+        go : (ns : List Move) → Path I S g l ns → Dec (length ns < x .count) → length (movesOf x) ≤ length ns
+        go ns p (yes h) = absurd (nearest .fewest (length ns) h (within-reach I S graph d (length ns) g l (path-within I S g l ns p)))
+        go ns p (no h) = omega (arith, nearest .counted)
 
-    pub nobody : ((g l : ℕ) → g < seats → Donor (graph .takes) wants g l → ⊥) → fairness.Exchange I S (testOf rule I S) → ⊥
+    pub nobody : ((g l : ℕ) → g < seats → Donor kind scores graph seats g l → ⊥) → Exchange I S (testOf kind I S) → ⊥
     nobody none x = go (x .moves) (x .path)
       where
-        go : (ms : List fairness.Move) → fairness.Path I S (x .receiver) (x .donor) ms → ⊥
-        go [] p = test-apart rule I S (x .receiver) (ap (testOf rule I S (x .receiver)) (p .linked) ∙ x .wanted)
+        go : (ms : List Move) → Path I S (x .receiver) (x .donor) ms → ⊥
+        go [] p = test-apart kind I S (x .receiver) (ap (testOf kind I S (x .receiver)) (p .linked) ∙ x .wanted)
         go (m ∷ ms) p =
-            let h : x .receiver < seats = omega (arith, p .linked .0, p .possible .0 .in-taker, d .seats-are) in
+            let h : x .receiver < seats = omega (arith, p .linked .0, p .possible .0 .in-taker) in
             none (x .receiver) (x .donor) h (donor-of (x .receiver) (x .donor) (m ∷ ms) h p (x .wanted))

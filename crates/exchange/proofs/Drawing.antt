@@ -1,70 +1,141 @@
 -- The graph of a sheet shows the moves that are possible on it. Assumes nothing.
-use mathlib.Core.Path.{_≡_, refl}
+use mathlib.Core.Path.{_≡_, refl, sym, _∙_}
+use mathlib.Core.Logic.{_⊎_, _↔_, inl, inr, ⊎-elim}
 use mathlib.Core.List.{List}
-use Prim.Native.Nat.{ℕ, zero, suc, _≤_, _<_}
+use Prim.Native.Nat.{ℕ, zero, suc, _+_, _≤_, _<_}
+use native.Mathlib.Decide.{ℕ-discrete}
 use native.Mathlib.Omega.{arith}
-use lib.ListN.{getD, replicate}
+use lib.ListN.{length, getD, set, replicate}
+use lib.Seq.{getD-set-same, getD-set-other}
 use Rattle.fairness.specs.Instance.{Instance}
 use Rattle.fairness.specs.Exchange.{Possible}
 use Rattle.model.specs.Book.{Grid, cell}
 use Rattle.sheet.specs.declared.Sheet.{Sheet}
 use Rattle.sheet.specs.Sheets.{credit}
-use Rattle.masks.specs.Sets.{In}
+use Rattle.masks.specs.Sets.{In, Inserted}
+use Rattle.masks.proofs.Laws.{bit-zero}
+use Rattle.instance.specs.declared.Terms.{Terms}
+use Rattle.instance.specs.Terms.{Told, Shows}
 use Rattle.reach.specs.declared.Graph.{Graph}
-use Rattle.reach.specs.Graphs.{setAt, Collects, Rows, Leads}
-use Rattle.exchange.specs.Held.{Held, Drawn}
+use Rattle.reach.specs.Graphs.{setAt, Rows, Leads}
+use Rattle.reach.proofs.Collect.{rows-first}
+use Rattle.exchange.specs.Steps.{Drawn}
+
+-- ---- a further holder
+
+-- seat has a credit in window w, of those below n
+abbrev Holds : List ℕ → ℕ → ℕ → ℕ → ℕ → Type 0
+Holds cells seat n w i = (i ≡ seat) × ((w < n) × (0 < getD cells w 0))
+
+-- the holders of the windows below n have the seat too, where it has a credit
+abbrev pub Added : List ℕ → List ℕ → ℕ → ℕ → List ℕ → Type 0
+Added holders cells seat n all = (w i : ℕ) → In i (setAt all w) ↔ (In i (setAt holders w) ⊎ Holds cells seat n w i)
+
+module _ (holders cells : List ℕ) (seat : ℕ) where
+  pub added-first : Added holders cells seat 0 holders
+  added-first w i = (inl, ⊎-elim (λ p. p) (λ h. absurd (omega (arith, h .1 .0))))
+
+  module _ (n : ℕ) (all : List ℕ) (a : Added holders cells seat n all) where
+    more : (w i : ℕ) → Holds cells seat n w i → Holds cells seat (n + 1) w i
+    more w i h = (h .0, (omega (arith, h .1 .0), h .1 .1))
+
+    elsewhere : (w i : ℕ) → (w ≡ n → ⊥) → In i (setAt all w) ↔ (In i (setAt holders w) ⊎ Holds cells seat (n + 1) w i)
+    elsewhere w i d = (
+      λ p. ⊎-elim inl (λ h. inr (more w i h)) (a w i .0 p),
+      ⊎-elim (λ p. a w i .1 (inl p)) (λ h. a w i .1 (inr (h .0, (omega (arith, h .1 .0), h .1 .1)))),
+    )
+
+    -- the seat has no credit in the next window
+    pub added-out : (0 < getD cells n 0 → ⊥) → Added holders cells seat (n + 1) all
+    added-out out w i =
+        elim (ℕ-discrete w n) [
+          | no d ↦ elsewhere w i d
+          | yes e ↦ (
+            λ p. ⊎-elim inl (λ h. inr (more w i h)) (a w i .0 p),
+            ⊎-elim (λ p. a w i .1 (inl p)) (λ h. absurd (out (rw e at (h .1 .1)))),
+          )
+        ]
+
+    -- it has one
+    module _ (v : ℕ) (long : n < length all) (has : 0 < getD cells n 0) (ins : Inserted (setAt all n) seat v) where
+      here : (i : ℕ) → In i v ↔ (In i (setAt holders n) ⊎ Holds cells seat (n + 1) n i)
+      here i =
+          elim (ℕ-discrete i seat) [
+            | yes e ↦ (λ p. inr (e, (omega arith, has)), λ p. rw e (ins .here))
+            | no d ↦ (
+              λ p. ⊎-elim inl (λ h. inr (more n i h)) (a n i .0 (sym (ins .others i d) ∙ p)),
+              ⊎-elim (λ p. ins .others i d ∙ a n i .1 (inl p)) (λ h. absurd (d (h .0))),
+            )
+          ]
+
+      pub added-in : Added holders cells seat (n + 1) (set all n v)
+      added-in w i =
+          elim (ℕ-discrete w n) [
+            | yes e ↦ rw e (rw (getD-set-same all n v 0 long) (here i))
+            | no d ↦ rw (getD-set-other all n w v 0 d) (elsewhere w i d)
+          ]
+
+-- ---- the graph
 
 -- a seat is below its cap in a window
 abbrev pub HasRoom : Sheet → Grid → ℕ → ℕ → ℕ → Type 0
 HasRoom sheet caps windows k w = (w < windows) × (credit sheet k w < cell caps k w)
 
--- a seat has a credit in a window
-abbrev pub HasCredit : Sheet → ℕ → ℕ → ℕ → Type 0
-HasCredit sheet windows k w = (w < windows) × (0 < credit sheet k w)
+-- a seat below n has a credit in a window
+abbrev HasCredit : Sheet → ℕ → ℕ → ℕ → ℕ → Type 0
+HasCredit sheet windows n w k = (k < n) × ((w < windows) × (0 < credit sheet k w))
 
--- a row of zeros
-zero-at : (n w : ℕ) → _≡_ {A = ℕ} (getD (replicate n 0) w 0) 0
-zero-at zero w = refl
-zero-at (suc n) zero = refl
-zero-at (suc n) (suc w) = zero-at n w
+-- the sets are the holders of each window among the seats below n
+abbrev pub Held : Sheet → ℕ → ℕ → List ℕ → Type 0
+Held sheet windows n sets = (w k : ℕ) → In k (setAt sets w) ↔ HasCredit sheet windows n w k
 
--- what is above a row of zeros has a credit
-pub above-zero : (m n v : ℕ) (cells : List ℕ) → Collects n (λ w. getD (replicate m 0) w 0 < getD cells w 0) v
-    → Collects n (λ w. 0 < getD cells w 0) v
-above-zero m n v cells c w = (
-  λ p. let q = c w .0 p in (q .0, omega (arith, q .1, zero-at m w)),
-  λ p. c w .1 (p .0, omega (arith, p .1, zero-at m w)),
-)
+pub held-first : (sheet : Sheet) (windows m : ℕ) → Held sheet windows 0 (replicate m 0)
+held-first sheet windows m w k =
+    let empty = rows-first (λ a b. Unit {0}) m w k in
+    (λ p. absurd (omega (arith, empty .0 p .0)), λ h. absurd (omega (arith, h .0)))
 
-module _ (sheet : Sheet) (caps : Grid) (seats windows : ℕ) (graph : Graph) (held : List ℕ)
-    (few-seats : seats ≤ 32) (few-windows : windows ≤ 24)
-    (rooms : Rows seats (HasRoom sheet caps windows) (graph .rooms)) (rows : Rows seats (HasCredit sheet windows) held)
-    (columns : Rows 24 (λ w i. (i < 32) × In w (setAt held i)) (graph .holders)) where
-  module _ (I : Instance) (S : ℕ → ℕ → ℕ) (h : Held I S seats windows caps sheet) where
+pub held-next : (sheet : Sheet) (windows n : ℕ) (sets sets′ cells : List ℕ) → Held sheet windows n sets
+    → ((w : ℕ) → getD cells w 0 ≡ credit sheet n w) → Added sets cells n windows sets′ → Held sheet windows (n + 1) sets′
+held-next sheet windows n sets sets′ cells h same a w k = (to, from)
+  where
+    to : In k (setAt sets′ w) → HasCredit sheet windows (n + 1) w k
+    to p =
+        ⊎-elim
+        (λ q. let b = h w k .0 q in (omega (arith, b .0), b .1))
+        (λ b. (omega (arith, b .0), (b .1 .0, rw (b .0) (omega (arith, b .1 .1, same w)))))
+        (a w k .0 p)
+
+    from : HasCredit sheet windows (n + 1) w k → In k (setAt sets′ w)
+    from b =
+        elim (ℕ-discrete k n) [
+          | yes e ↦ a w k .1 (inr (e, (b .1 .0, omega (arith, rw e at (b .1 .1), same w))))
+          | no d ↦ a w k .1 (inl (h w k .1 (omega (arith, b .0), b .1)))
+        ]
+
+module _ (sheet : Sheet) (caps : Grid) (t : Terms) (graph : Graph) (rooms : Rows (t .seats) (HasRoom sheet caps (t .windows)) (graph .rooms))
+    (held : Held sheet (t .windows) (t .seats) (graph .holders)) where
+  module _ (I : Instance) (S : ℕ → ℕ → ℕ) (told : Told I t caps) (shows : Shows t S sheet) where
     to : (k l w : ℕ) → Leads (setAt (graph .rooms) k) (graph .holders) l w → Possible I S (record { window = w; giver = l; taker = k })
     to k l w p =
         let taker = rooms k w .0 (p .member) in
-        let giver = rows l w .0 (columns w l .0 (p .leads) .1 .1) in
+        let giver = held w l .0 (p .leads) in
         record {
-          in-window = omega (arith, taker .1 .0, h .windows-are);
-          in-giver = omega (arith, giver .0, h .seats-are);
-          in-taker = omega (arith, taker .0, h .seats-are);
-          has = omega (arith, giver .1 .1, h .cells-are l w (giver .0) (giver .1 .0));
-          room = omega (arith, taker .1 .1, h .cells-are k w (taker .0) (taker .1 .0), h .caps-are k w (taker .0) (taker .1 .0));
+          in-window = omega (arith, taker .1 .0, told .windows-are);
+          in-giver = omega (arith, giver .0, told .seats-are);
+          in-taker = omega (arith, taker .0, told .seats-are);
+          has = omega (arith, giver .1 .1, shows l w (giver .0) (giver .1 .0));
+          room = omega (arith, taker .1 .1, shows k w (taker .0) (taker .1 .0), told .caps-are k w (taker .0) (taker .1 .0));
         }
 
     from : (k l w : ℕ) → Possible I S (record { window = w; giver = l; taker = k }) → Leads (setAt (graph .rooms) k) (graph .holders) l w
     from k l w p =
-        let in-window : w < windows = omega (arith, p .in-window, h .windows-are) in
-        let in-giver : l < seats = omega (arith, p .in-giver, h .seats-are) in
-        let in-taker : k < seats = omega (arith, p .in-taker, h .seats-are) in
-        let cells = h .cells-are k w in-taker in-window in
-        let room : credit sheet k w < cell caps k w = omega (arith, p .room, cells, h .caps-are k w in-taker in-window) in
-        let has : 0 < credit sheet l w = omega (arith, p .has, h .cells-are l w in-giver in-window) in
-        record {
-          member = rooms k w .1 (in-taker, (in-window, room));
-          leads = columns w l .1 (omega arith, (omega arith, rows l w .1 (in-giver, (in-window, has))));
-        }
+        let in-window : w < t .windows = omega (arith, p .in-window, told .windows-are) in
+        let in-giver : l < t .seats = omega (arith, p .in-giver, told .seats-are) in
+        let in-taker : k < t .seats = omega (arith, p .in-taker, told .seats-are) in
+        let cells = shows k w in-taker in-window in
+        let room : credit sheet k w < cell caps k w = omega (arith, p .room, cells, told .caps-are k w in-taker in-window) in
+        let has : 0 < credit sheet l w = omega (arith, p .has, shows l w in-giver in-window) in
+        record { member = rooms k w .1 (in-taker, (in-window, room)); leads = held w l .1 (in-giver, (in-window, has)) }
 
-    pub drawn : Drawn I S seats graph
-    drawn = record { seats-are = h .seats-are; shown = λ k l w. (to k l w, from k l w) }
+    pub drawn : Drawn I S graph
+    drawn k l w = (to k l w, from k l w)

@@ -1,7 +1,9 @@
 -- The laws that the functions' proofs cite.
+pub mod Heights
 pub mod Drawing
 pub mod Routes
 pub mod Bridge
 pub mod Choosing
+pub mod Finding
 -- what callers cite
 pub mod Theorems

@@ -1,4 +1,5 @@
--- What the contracts of this crate cite.
-pub mod Held
+-- What the search answers.
+pub mod Paths
+-- What its parts answer.
 pub mod Tests
-pub mod Search
+pub mod Steps

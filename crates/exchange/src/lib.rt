@@ -1,44 +1,79 @@
-// The search for exchange paths, which the marker and the planner call.
+// The search for exchange paths, which the marker and settling call.
 ghost use mathlib.Core.Path.{_≡_};
-ghost use mathlib.Core.Bool.{true, false};
+ghost use mathlib.Core.Bool.{true};
+ghost use mathlib.Core.Logic.{_⊎_, _↔_};
 ghost use Prim.Native.Nat.{ℕ, _≤_, _<_};
 ghost use lib.ListN.{getD};
-ghost use Rattle.fairness.specs.Instance.{Instance};
-ghost use Rattle.fairness.specs.Numbers.{Moderate};
-ghost use Rattle.reach.specs.Graphs.{Collects, Rows, Sound, Fewest};
-ghost use Rattle.exchange.specs.Held.{Held, Scored, Bounded, Drawn};
-ghost use Rattle.exchange.specs.Tests.{testBy, testOn};
-ghost use Rattle.exchange.specs.Search.{Answers, HasDonor, Layered, Nearest, RouteTo};
+ghost use Rattle.fairness.specs.Instance.{Instance, Feasible};
+ghost use Rattle.model.specs.Book.{Grid};
+ghost use Rattle.sheet.specs.Sheets.{credit};
+ghost use Rattle.instance.specs.Terms.{instanceIn, Told, Shows, Ranged, Small};
+ghost use Rattle.masks.specs.Sets.{In};
+ghost use Rattle.reach.specs.Graphs.{setAt, Collects, Reached, Layers, Fewest};
+ghost use Rattle.exchange.specs.Paths.{movesOf, Writable, Answers};
+ghost use Rattle.exchange.specs.Tests.{testBy, scoreAt, Tested, Bounded, Scored, Wants};
+ghost use Rattle.exchange.specs.Steps.{Drawn, Firsts, Gives, GivesBy, Leading, Nearest};
+use instance::Terms;
 use reach::Graph;
-use reach::Receiver;
+use sheet::Caps;
 use sheet::Move;
 use sheet::Sheet;
 
-// What the tests look at: for each seat its height, its weight, and its place in the order of the seat rule.
+// What an exchange path does: it improves the sheet, or ties wrongly. Or there is none.
+pub enum Kind {
+    None,
+    Improving,
+    WronglyTied,
+}
+
+// An exchange path from a receiver to a donor, its moves from the receiver's on.
+pub struct ExchangePath {
+    pub kind: Kind,
+    pub receiver: usize,
+    pub donor: usize,
+    pub count: usize,
+    pub moves: [Move; 31],
+}
+
+// What the tests look at of a seat: its height, its weight, and its place in the order of the seat rule.
+pub struct Score {
+    pub height: u32,
+    pub weight: u32,
+    pub position: u32,
+}
+
+// The scores of all seats.
 pub struct Scores {
     pub heights: [u32; 32],
     pub weights: [u32; 32],
     pub positions: [u32; 32],
 }
 
-// Which exchanges are wanted.
-pub enum Rule {
-    Improves,
-    TiesWrongly,
+// A receiver and a donor that it reaches.
+pub enum Pair {
+    Nobody,
+    Between { receiver: usize, donor: usize },
 }
 
-// The moves of an exchange path, the receiver's move first.
-pub struct Route {
-    pub count: usize,
-    pub moves: [Move; 31],
-}
-
-// An exchange that a search found, or none.
-pub struct Exchange {
-    pub found: bool,
-    pub receiver: usize,
-    pub donor: usize,
-    pub route: Route,
+// The scores of a sheet: a seat's height is its base and its cells together.
+fn scores_of(sheet: Sheet, t: Terms) -> Scores
+    requires { ⌜ Ranged t ⌝ }
+    ensures { λ r. ⌜ ((I : Instance) (S : ℕ → ℕ → ℕ) (caps : Grid) → Told I t caps → Shows t S sheet → Scored I S r) ⌝ }
+{
+    let seats = t.seats;
+    let windows = t.windows;
+    let bases = t.bases;
+    let weights = t.weights;
+    let positions = t.positions;
+    let mut heights = [0u32; 32];
+    for i in 0..seats {
+        heights[i] = bases[i] + sheet.total(i, windows);
+    }
+    Scores {
+        heights,
+        weights,
+        positions,
+    }
 }
 
 // The windows in which a row has less than another.
@@ -55,96 +90,134 @@ fn below(a: [u16; 24], b: [u16; 24], windows: usize) -> u32
     set
 }
 
-// Who can take a credit from whom on a sheet.
-pub fn graph(sheet: Sheet, caps: [[u16; 24]; 32], seats: usize, windows: usize) -> Graph
-    requires { ⌜ (seats ≤ 32) × (windows ≤ 24) ⌝ }
-    ensures { λ r. ⌜ Sound r ⌝ }
-    ensures { λ r. ⌜ ((I : Instance) (S : ℕ → ℕ → ℕ) → Held I S seats windows caps sheet → Drawn I S seats r) ⌝ }
+// The holders of each window with a further seat, whose cells are given.
+fn with_holder(holders: [u32; 24], cells: [u16; 24], windows: usize, seat: usize) -> [u32; 24]
+    requires { ⌜ (windows ≤ 24) × (seat < 32) ⌝ }
+    ensures { λ r. ⌜ ((w i : ℕ) → In i (setAt r w) ↔
+        (In i (setAt holders w) ⊎ ((i ≡ seat) × ((w < windows) × (0 < getD cells w 0))))) ⌝ }
 {
-    let none = [0u16; 24];
+    let mut all = holders;
+    for w in 0..windows {
+        if cells[w] > 0 {
+            all[w] = masks::insert(all[w], seat);
+        }
+    }
+    all
+}
+
+// Who can take a credit from whom on a sheet.
+fn graph_of(sheet: Sheet, caps: Caps, t: Terms) -> Graph
+    requires { ⌜ Ranged t ⌝ }
+    ensures { λ r. ⌜ ((I : Instance) (S : ℕ → ℕ → ℕ) → Told I t caps → Shows t S sheet → Drawn I S r) ⌝ }
+{
+    let seats = t.seats;
+    let windows = t.windows;
     let mut rooms = [0u32; 32];
-    let mut held = [0u32; 32];
+    let mut holders = [0u32; 24];
     for i in 0..seats {
         let row = sheet.rows[i];
         let cells = row.cells;
         rooms[i] = below(cells, caps[i], windows);
-        held[i] = below(none, cells, windows);
+        let more = with_holder(holders, cells, windows, i);
+        holders = more;
     }
-    reach::draw(rooms, reach::columns(held))
+    Graph { rooms, holders }
 }
 
-// Whether a rule wants an exchange, by height, weight and position of the receiver and of the donor.
-fn wanted(
-    rule: Rule,
-    height: u32,
-    weight: u32,
-    position: u32,
-    donor_height: u32,
-    donor_weight: u32,
-    donor_position: u32,
-) -> bool
-    requires { ⌜ Moderate height weight × Moderate «donor_height» «donor_weight» ⌝ }
-    ensures { λ r. ⌜ r ≡ testBy rule height weight position «donor_height» «donor_weight» «donor_position» ⌝ }
+// Whether an exchange of this kind is wanted, by the scores of the receiver and of the donor.
+fn wanted(kind: Kind, receiver: Score, donor: Score) -> bool
+    requires { ⌜ Tested receiver × Tested donor ⌝ }
+    ensures { λ r. ⌜ r ≡ testBy kind receiver donor ⌝ }
 {
-    match rule {
-        Rule::Improves => fairness::improves(height, weight, donor_height, donor_weight),
-        Rule::TiesWrongly => fairness::ties_wrongly(
-            height,
-            weight,
-            position,
-            donor_height,
-            donor_weight,
-            donor_position,
+    match kind {
+        Kind::None => false,
+        Kind::Improving => fairness::improves(
+            receiver.height,
+            receiver.weight,
+            donor.height,
+            donor.weight,
+        ),
+        Kind::WronglyTied => fairness::ties_wrongly(
+            receiver.height,
+            receiver.weight,
+            receiver.position,
+            donor.height,
+            donor.weight,
+            donor.position,
         ),
     }
 }
 
-// The donors that a rule wants for a receiver.
-fn wanted_by(rule: Rule, scores: Scores, seats: usize, g: usize) -> u32
+// The donors that are wanted for a receiver.
+fn wanted_by(kind: Kind, scores: Scores, seats: usize, g: usize) -> u32
     requires { ⌜ (seats ≤ 32) × ((g < seats) × Bounded seats scores) ⌝ }
-    ensures { λ r. ⌜ Collects seats (λ l. testOn rule scores g l ≡ true) r ⌝ }
+    ensures { λ r. ⌜ ((l : ℕ) → In l r ↔ Wants kind scores seats g l) ⌝ }
 {
     let heights = scores.heights;
     let weights = scores.weights;
     let positions = scores.positions;
+    let receiver = Score {
+        height: heights[g],
+        weight: weights[g],
+        position: positions[g],
+    };
     let mut set: u32 = 0;
     for l in 0..seats {
-        if wanted(
-            rule,
-            heights[g],
-            weights[g],
-            positions[g],
-            heights[l],
-            weights[l],
-            positions[l],
-        ) {
+        let donor = Score {
+            height: heights[l],
+            weight: weights[l],
+            position: positions[l],
+        };
+        if wanted(kind, receiver, donor) {
             set = masks::insert(set, l);
         }
     }
     set
 }
 
-// For each receiver the donors that a rule wants.
-fn wants(rule: Rule, scores: Scores, seats: usize) -> [u32; 32]
+// The first receiver that reaches a donor which is wanted for it, and its lowest such donor.
+fn first_pair(kind: Kind, scores: Scores, graph: Graph, seats: usize) -> Pair
     requires { ⌜ (seats ≤ 32) × Bounded seats scores ⌝ }
-    ensures { λ r. ⌜ Rows seats (λ g l. (l < seats) × (testOn rule scores g l ≡ true)) r ⌝ }
+    ensures { λ r. ⌜ Firsts kind scores graph seats r ⌝ }
 {
-    let mut sets = [0u32; 32];
     for g in 0..seats {
-        sets[g] = wanted_by(rule, scores, seats, g);
+        let wanted = wanted_by(kind, scores, seats, g);
+        if wanted != 0 {
+            let donors = masks::intersect(wanted, reach::reached(graph, g));
+            if donors != 0 {
+                return Pair::Between {
+                    receiver: g,
+                    donor: masks::lowest(donors),
+                };
+            }
+        }
     }
-    sets
+    Pair::Nobody
+}
+
+// A move by which a seat gives to a member of a set.
+fn move_from(graph: Graph, set: u32, giver: usize) -> Move
+    requires { ⌜ (giver < 32) × Gives graph set giver ⌝ }
+    ensures { λ r. ⌜ GivesBy graph set giver r ⌝ }
+{
+    let rooms = graph.rooms;
+    let holders = graph.holders;
+    let windows = reach::column(&holders, giver);
+    let taker = reach::first_meeting(set, &rooms, windows);
+    let window = masks::lowest(masks::intersect(rooms[taker], windows));
+    Move {
+        window,
+        giver,
+        taker,
+    }
 }
 
 // The moves of a shortest path to a donor, from the layers that each number of moves reaches: from the donor back, the taker of each move
 // is a seat of the layer before.
-fn route_to(graph: Graph, sets: [u32; 32], donor: usize, count: usize) -> Route
-    requires { ⌜ Sound graph × (Fewest sets donor count × Layered (graph .takes) sets) ⌝ }
-    ensures { λ r. ⌜ RouteTo graph sets donor count r ⌝ }
+fn moves_to(graph: Graph, sets: [u32; 32], donor: usize, count: usize) -> [Move; 31]
+    requires { ⌜ Fewest sets donor count × ((g : ℕ) × Layers graph g sets) ⌝ }
+    ensures { λ r. ⌜ Leading graph sets donor count r ⌝ }
 {
-    let rooms = graph.rooms;
-    let holders = graph.holders;
-    let takes = graph.takes;
     let none = Move {
         window: 0,
         giver: 0,
@@ -155,79 +228,63 @@ fn route_to(graph: Graph, sets: [u32; 32], donor: usize, count: usize) -> Route
     let mut r = count;
     while r > 0 {
         r -= 1;
-        let taker = reach::first_through(sets[r], &takes, giver);
-        let window = reach::first_through(rooms[taker], &holders, giver);
-        moves[r] = Move {
-            window,
-            giver,
-            taker,
-        };
-        giver = taker;
+        let m = move_from(graph, sets[r], giver);
+        moves[r] = m;
+        giver = m.taker;
     }
-    Route { count, moves }
+    moves
 }
 
-// The exchange of a receiver that has a donor which it wants: the lowest such donor, and a path to it that has the fewest moves.
-fn exchange_of(graph: Graph, wants: [u32; 32], g: usize) -> Exchange
-    requires { ⌜ (g < 32) × (Sound graph × HasDonor (graph .takes) wants g) ⌝ }
-    ensures { λ r. ⌜ Nearest graph wants g r ⌝ }
+// An exchange path from a receiver to a donor that has the fewest moves.
+fn path_to(kind: Kind, graph: Graph, receiver: usize, donor: usize) -> ExchangePath
+    requires { ⌜ (receiver < 32) × Reached graph receiver donor ⌝ }
+    ensures { λ r. ⌜ Nearest kind graph receiver donor r ⌝ }
 {
-    let takes = graph.takes;
-    let sets = reach::layers(takes, g);
-    let donor = masks::lowest(masks::intersect(sets[31], wants[g]));
+    let sets = reach::layers(graph, receiver);
     let count = reach::fewest(sets, donor);
-    Exchange {
-        found: true,
-        receiver: g,
+    ExchangePath {
+        kind,
+        receiver,
         donor,
-        route: route_to(graph, sets, donor, count),
+        count,
+        moves: moves_to(graph, sets, donor, count),
     }
 }
 
-// No exchange.
-fn nothing() -> Exchange
-    ensures { λ r. ⌜ (r .found ≡ false) × (r .route .count ≡ 0) ⌝ }
+// No exchange path.
+fn no_path() -> ExchangePath
+    ensures { λ r. ⌜ (r .kind ≡ Kind.None) × (r .count ≡ 0) ⌝ }
 {
     let none = Move {
         window: 0,
         giver: 0,
         taker: 0,
     };
-    Exchange {
-        found: false,
+    ExchangePath {
+        kind: Kind::None,
         receiver: 0,
         donor: 0,
-        route: Route {
-            count: 0,
-            moves: [none; 31],
-        },
+        count: 0,
+        moves: [none; 31],
     }
 }
 
-// The search on a graph: the first receiver that has a path which the rule wants, its lowest donor, and a path between the two that has
-// the fewest moves.
-pub fn search_graph(rule: Rule, scores: Scores, graph: Graph, seats: usize) -> Exchange
-    requires { ⌜ (seats ≤ 32) × (Bounded seats scores × Sound graph) ⌝ }
-    ensures { λ r. ⌜ ((I : Instance) (S : ℕ → ℕ → ℕ) → Drawn I S seats graph → Scored I S seats scores → Answers I S rule r) ⌝ }
+// An exchange path that improves, and where there is none one that ties wrongly.
+pub fn find_path(sheet: Sheet, caps: Caps, t: Terms) -> ExchangePath
+    requires { ⌜ Small t caps ⌝ }
+    requires { ⌜ Feasible (instanceIn t caps) (credit sheet) ⌝ }
+    ensures { λ r. ⌜ Writable r ⌝ }
+    ensures { λ r. ⌜ ((I : Instance) (S : ℕ → ℕ → ℕ) → Told I t caps → Shows t S sheet →
+        Answers I S (r .kind) (r .receiver) (r .donor) (movesOf r)) ⌝ }
 {
-    let wants = wants(rule, scores, seats);
-    match reach::first_receiver(graph, wants, seats) {
-        Receiver::Nobody => nothing(),
-        Receiver::Seat(g) => exchange_of(graph, wants, g),
+    let seats = t.seats;
+    let scores = scores_of(sheet, t);
+    let graph = graph_of(sheet, caps, t);
+    if let Pair::Between { receiver, donor } = first_pair(Kind::Improving, scores, graph, seats) {
+        return path_to(Kind::Improving, graph, receiver, donor);
     }
-}
-
-// The search on a sheet.
-pub fn search(
-    rule: Rule,
-    scores: Scores,
-    sheet: Sheet,
-    caps: [[u16; 24]; 32],
-    seats: usize,
-    windows: usize,
-) -> Exchange
-    requires { ⌜ (seats ≤ 32) × ((windows ≤ 24) × Bounded seats scores) ⌝ }
-    ensures { λ r. ⌜ ((I : Instance) (S : ℕ → ℕ → ℕ) → Held I S seats windows caps sheet → Scored I S seats scores → Answers I S rule r) ⌝ }
-{
-    search_graph(rule, scores, graph(sheet, caps, seats, windows), seats)
+    if let Pair::Between { receiver, donor } = first_pair(Kind::WronglyTied, scores, graph, seats) {
+        return path_to(Kind::WronglyTied, graph, receiver, donor);
+    }
+    no_path()
 }

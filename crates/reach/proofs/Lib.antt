@@ -1,6 +1,5 @@
 -- The laws that the functions' proofs cite.
 pub mod Members
 pub mod Unions
-pub mod Search
-pub mod Steps
+pub mod Waves
 pub mod Collect

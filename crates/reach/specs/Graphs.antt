@@ -5,10 +5,9 @@ use mathlib.Core.Logic.{_⊎_, _↔_}
 use mathlib.Core.List.{List}
 use Prim.Native.Nat.{ℕ, zero, suc, _<_}
 use lib.ListN.{getD}
-use Rattle.masks.specs.Sets.{bit, In}
+use Rattle.masks.specs.Sets.{bit, In, Within}
 use Rattle.reach.specs.declared.Graph.{Graph}
-use Rattle.reach.specs.declared.Receiver.{Receiver}
-use Rattle.reach.specs.declared.Receiver.the-variants.{Nobody, Seat}
+use Rattle.reach.specs.declared.Wave.{Wave}
 
 -- the set at an index of a list of sets
 abbrev pub setAt : List ℕ → ℕ → ℕ
@@ -37,49 +36,54 @@ pub record UnionOver (set : ℕ) (sets : List ℕ) (all : ℕ) : Type 0 where
   pub sound : (l : ℕ) → In l all → Through set sets l
   pub whole : (l : ℕ) → Through set sets l → In l all
 
--- each seat can take from those that hold a credit in a window in which it has room
-abbrev pub Sound : Graph → Type 0
-Sound graph = (k : ℕ) → UnionOver (setAt (graph .rooms) k) (graph .holders) (setAt (graph .takes) k)
+-- i is a member of a set, and its own set shares a member with another
+pub record Meets (set : ℕ) (sets : List ℕ) (other i : ℕ) : Type 0 where
+  pub member : In i set
+  pub shared : ℕ
+  pub own : In shared (setAt sets i)
+  pub others : In shared other
 
 -- ---- what a receiver reaches
 
+-- k can take a credit from l: l holds one in a window in which k has room
+abbrev pub Takes : Graph → ℕ → ℕ → Type 0
+Takes graph k l = Through (setAt (graph .rooms) k) (graph .holders) l
+
 -- at most r moves lead from g to l: l is reached in fewer, or by a last move, with l the giver, from a seat that fewer reach
-abbrev pub Reach : List ℕ → ℕ → ℕ → ℕ → Type 0
-Reach takes zero g l = g ≡ l
-Reach takes (suc r) g l = Reach takes r g l ⊎ ((k : ℕ) × (Reach takes r g k × In l (setAt takes k)))
+abbrev pub Reach : Graph → ℕ → ℕ → ℕ → Type 0
+Reach graph zero g l = g ≡ l
+Reach graph (suc r) g l = Reach graph r g l ⊎ ((k : ℕ) × (Reach graph r g k × Takes graph k l))
 
--- l is reached from g, and is one of those that g wants
-pub record Donor (takes wants : List ℕ) (g l : ℕ) : Type 0 where
-  pub moves : ℕ
-  pub reached : Reach takes moves g l
-  pub wanted : In l (setAt wants g)
-
--- the first seat that has a donor
-pub record First (takes wants : List ℕ) (seats g : ℕ) : Type 0 where
-  pub seat : g < seats
-  pub donor : ℕ
-  pub has : Donor takes wants g donor
-  pub earlier : (h l : ℕ) → h < g → Donor takes wants h l → ⊥
-
--- the first seat that has a donor, or the fact that none has one
-abbrev pub Answers : List ℕ → List ℕ → ℕ → Receiver → Type 0
-Answers takes wants seats Nobody = (g l : ℕ) → g < seats → Donor takes wants g l → ⊥
-Answers takes wants seats (Seat g) = First takes wants seats g
-
--- no seat wants itself
-abbrev pub Apart : List ℕ → Type 0
-Apart wants = (g : ℕ) → bit (setAt wants g) g ≡ 0
+-- some number of moves leads from g to l
+abbrev pub Reached : Graph → ℕ → ℕ → Type 0
+Reached graph g l = (r : ℕ) × Reach graph r g l
 
 -- a set is what at most r moves reach from g
-abbrev pub Layer : List ℕ → ℕ → ℕ → ℕ → Type 0
-Layer takes g r set = (l : ℕ) → In l set ↔ Reach takes r g l
+abbrev pub Layer : Graph → ℕ → ℕ → ℕ → Type 0
+Layer graph g r set = (l : ℕ) → In l set ↔ Reach graph r g l
 
 -- the set at each number of moves up to 31 is what so many moves at most reach from g
-abbrev pub Layers : List ℕ → ℕ → List ℕ → Type 0
-Layers takes g sets = (r : ℕ) → r < 32 → Layer takes g r (setAt sets r)
+abbrev pub Layers : Graph → ℕ → List ℕ → Type 0
+Layers graph g sets = (r : ℕ) → r < 32 → Layer graph g r (setAt sets r)
 
 -- r is the least index of a set that has l
 pub record Fewest (sets : List ℕ) (l r : ℕ) : Type 0 where
   pub small : r < 32
   pub here : In l (setAt sets r)
   pub least : (q : ℕ) → q < r → bit (setAt sets q) l ≡ 0
+
+-- ---- the search outward
+
+-- After n moves out from g: what they reach is seen. Whoever was seen and is not in front has room in windows alone that were looked into,
+-- and who holds a credit in a window that was looked into was seen.
+pub record Spread (graph : Graph) (g n : ℕ) (wave : Wave) : Type 0 where
+  pub layer : Layer graph g n (wave .seen)
+  pub within : Within (wave .front) (wave .seen)
+  pub looked : (i v : ℕ) → In i (wave .seen) → bit (wave .front) i ≡ 0 → In v (setAt (graph .rooms) i) → bit (wave .windows) v ≡ 0
+  pub shut : (v l : ℕ) → bit (wave .windows) v ≡ 0 → In l (setAt (graph .holders) v) → In l (wave .seen)
+  pub few : (v : ℕ) → In v (wave .windows) → v < 24
+
+-- what was seen stays so, and what comes in front was not seen before
+pub record Grown (before after : Wave) : Type 0 where
+  pub more : Within (before .seen) (after .seen)
+  pub new : (l : ℕ) → In l (after .front) → (bit (before .seen) l ≡ 0) × In l (after .seen)

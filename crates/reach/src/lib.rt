@@ -1,18 +1,17 @@
 // Which seats a receiver reaches: sets of seats as masks, grown along the moves that are possible.
 ghost use mathlib.Core.Path.{_≡_};
-ghost use mathlib.Core.Bool.{false};
-ghost use Prim.Native.Nat.{_≤_, _<_};
+ghost use mathlib.Core.Logic.{_↔_};
+ghost use Prim.Native.Nat.{ℕ, _+_, _≤_, _<_};
 ghost use lib.ListN.{length};
-ghost use Rattle.masks.specs.Sets.{bit, Within};
-ghost use Rattle.reach.specs.Graphs.{setAt, Collects, Rows, Leads, Through, UnionOver, Sound, Answers, Apart, Layers, Fewest};
+ghost use Rattle.masks.specs.Sets.{bit, In};
+ghost use Rattle.reach.specs.Graphs.{setAt, Collects, Meets, UnionOver, Reached, Layers, Fewest, Spread, Grown};
 use masks::full;
 use masks::has;
 use masks::insert;
 use masks::intersect;
 use masks::lowest;
 use masks::minus;
-use masks::remove;
-use masks::size;
+use masks::remove_lowest;
 use masks::union;
 
 // Who can take a credit from whom.
@@ -21,39 +20,56 @@ pub struct Graph {
     pub rooms: [u32; 32],
     // For each window the seats that have a credit there.
     pub holders: [u32; 24],
-    // For each seat those from which it can take.
-    pub takes: [u32; 32],
 }
 
-// The first seat that has a donor.
-pub enum Receiver {
-    Nobody,
-    Seat(usize),
+// A search outward from a seat, a move at a time.
+pub struct Wave {
+    // The seats that were reached.
+    pub seen: u32,
+    // Those of them that the last move reached.
+    pub front: u32,
+    // The windows that nobody has looked into.
+    pub windows: u32,
 }
 
 // The union of the sets at the members of a set.
 fn union_over(set: u32, sets: &[u32]) -> u32
-    requires { ⌜ length (now sets) ≤ 32 ⌝ }
+    requires { ⌜ ((i : ℕ) → In i set → i < length (now sets)) ⌝ }
     ensures { λ r. ⌜ UnionOver set (now (sets .entry)) r ⌝ }
 {
     let mut all: u32 = 0;
+    let mut left = set;
+    while left != 0 {
+        let i = lowest(left);
+        left = remove_lowest(left);
+        all = union(all, sets[i]);
+    }
+    all
+}
+
+// The numbers of the sets that have l.
+pub fn column(sets: &[u32], l: usize) -> u32
+    requires { ⌜ (length (now sets) ≤ 32) × (l < 32) ⌝ }
+    ensures { λ r. ⌜ Collects (length (now (sets .entry))) (λ i. In l (setAt (now (sets .entry)) i)) r ⌝ }
+{
+    let mut all: u32 = 0;
     for i in 0..sets.len() {
-        if has(set, i) {
-            all = union(all, sets[i]);
+        if has(sets[i], l) {
+            all = insert(all, i);
         }
     }
     all
 }
 
-// A member of a set whose own set has l.
-pub fn first_through(set: u32, sets: &[u32], l: usize) -> usize
-    requires { ⌜ (length (now sets) ≤ 32) × (l < 32) ⌝ }
-    requires { ⌜ Through set (now sets) l ⌝ }
-    ensures { λ r. ⌜ Leads set (now (sets .entry)) l r ⌝ }
+// A member of a set whose own set meets another.
+pub fn first_meeting(set: u32, sets: &[u32], other: u32) -> usize
+    requires { ⌜ length (now sets) ≤ 32 ⌝ }
+    requires { ⌜ ((i : ℕ) × Meets set (now sets) other i) ⌝ }
+    ensures { λ r. ⌜ Meets set (now (sets .entry)) other r ⌝ }
 {
     for i in 0..sets.len() {
         if has(set, i) {
-            if has(sets[i], l) {
+            if intersect(sets[i], other) != 0 {
                 return i;
             }
         }
@@ -61,68 +77,58 @@ pub fn first_through(set: u32, sets: &[u32], l: usize) -> usize
     0
 }
 
-// Whether a set would grow by the members of another.
-fn grows(set: u32, more: u32) -> bool
-    ensures { λ r. ⌜ ((r ≡ false → Within more set) × (Within more set → r ≡ false)) ⌝ }
-{
-    size(set) < size(union(set, more))
-}
-
-// The rows whose sets have a number.
-fn column(rows: [u32; 32], w: usize) -> u32
-    requires { ⌜ w < 32 ⌝ }
-    ensures { λ r. ⌜ Collects 32 (λ i. bit (setAt rows i) w ≡ 1) r ⌝ }
-{
-    let mut set: u32 = 0;
-    for i in 0..32 {
-        if has(rows[i], w) {
-            set = insert(set, i);
-        }
-    }
-    set
-}
-
-// For each window the seats whose sets of windows have it.
-pub fn columns(rows: [u32; 32]) -> [u32; 24]
-    ensures { λ r. ⌜ Rows 24 (λ w i. (i < 32) × (bit (setAt rows i) w ≡ 1)) r ⌝ }
-{
-    let mut sets = [0u32; 24];
-    for w in 0..24 {
-        sets[w] = column(rows, w);
-    }
-    sets
-}
-
-// The graph of the rooms and the holders.
-pub fn draw(rooms: [u32; 32], holders: [u32; 24]) -> Graph
-    ensures { λ r. ⌜ (r .rooms ≡ rooms) × ((r .holders ≡ holders) × Sound r) ⌝ }
-{
-    let mut takes = [0u32; 32];
-    for i in 0..32 {
-        takes[i] = union_over(rooms[i], &holders);
-    }
-    Graph {
-        rooms,
-        holders,
-        takes,
-    }
-}
-
-// What each number of moves reaches from a seat, 0 to 31 moves. Once the set does not grow it is done.
-pub fn layers(takes: [u32; 32], g: usize) -> [u32; 32]
+// No move yet.
+fn start(g: usize) -> Wave
     requires { ⌜ g < 32 ⌝ }
-    ensures { λ r. ⌜ Layers takes g r ⌝ }
+    ensures { λ r. ⌜ ((graph : Graph) → length (graph .holders) ≡ 24 → Spread graph g 0 r) ⌝ }
 {
-    let mut set = insert(0, g);
+    let here = insert(0, g);
+    Wave {
+        seen: here,
+        front: here,
+        windows: full(24),
+    }
+}
+
+// One move more. Each window is looked into once: who holds a credit there is reached then.
+fn outward(graph: Graph, wave: Wave) -> Wave
+    requires { ⌜ ((v : ℕ) → In v (wave .windows) → v < 24) ⌝ }
+    ensures { λ r. ⌜ Grown wave r ⌝ }
+    ensures { λ r. ⌜ ((g n : ℕ) → Spread graph g n wave → Spread graph g (n + 1) r) ⌝ }
+{
+    let rooms = graph.rooms;
+    let holders = graph.holders;
+    let left = intersect(union_over(wave.front, &rooms), wave.windows);
+    let front = minus(union_over(left, &holders), wave.seen);
+    Wave {
+        seen: union(wave.seen, front),
+        front,
+        windows: minus(wave.windows, left),
+    }
+}
+
+// All that moves reach from a seat.
+pub fn reached(graph: Graph, g: usize) -> u32
+    requires { ⌜ g < 32 ⌝ }
+    ensures { λ r. ⌜ ((l : ℕ) → In l r ↔ Reached graph g l) ⌝ }
+{
+    let mut wave = start(g);
+    while wave.front != 0 {
+        wave = outward(graph, wave);
+    }
+    wave.seen
+}
+
+// What each number of moves reaches from a seat, 0 to 31 moves.
+pub fn layers(graph: Graph, g: usize) -> [u32; 32]
+    requires { ⌜ g < 32 ⌝ }
+    ensures { λ r. ⌜ Layers graph g r ⌝ }
+{
+    let mut wave = start(g);
     let mut sets = [0u32; 32];
-    let mut growing = true;
-    for r in 0..32 {
-        sets[r] = set;
-        if growing {
-            let near = union_over(set, &takes);
-            growing = grows(set, near);
-            set = union(set, near);
-        }
+    for n in 0..32 {
+        sets[n] = wave.seen;
+        wave = outward(graph, wave);
     }
     sets
 }
@@ -137,38 +143,4 @@ pub fn fewest(sets: [u32; 32], l: usize) -> usize
         r += 1;
     }
     r
-}
-
-// The first seat, from seat 0 up, from which moves reach one that it wants. Of each seat that is reached, the windows in which it has room
-// are looked at in turn, each once: who holds a credit there was seen then.
-pub fn first_receiver(graph: Graph, wants: [u32; 32], seats: usize) -> Receiver
-    requires { ⌜ (seats ≤ 32) × (Sound graph × Apart wants) ⌝ }
-    ensures { λ r. ⌜ Answers (graph .takes) wants seats r ⌝ }
-{
-    let rooms = graph.rooms;
-    let holders = graph.holders;
-    let mut found = Receiver::Nobody;
-    'receiver: for g in 0..seats {
-        let mut seen = insert(0, g);
-        let mut front = seen;
-        let mut windows = full(24);
-        'reached: while front != 0 {
-            let k = lowest(front);
-            front = remove(front, k);
-            let mut left = intersect(rooms[k], windows);
-            windows = minus(windows, left);
-            'window: while left != 0 {
-                let w = lowest(left);
-                left = remove(left, w);
-                let new = minus(holders[w], seen);
-                if intersect(new, wants[g]) != 0 {
-                    found = Receiver::Seat(g);
-                    break 'receiver;
-                }
-                front = union(front, new);
-                seen = union(seen, new);
-            }
-        }
-    }
-    found
 }

@@ -8,16 +8,17 @@ use native.Mathlib.Omega.{arith}
 use Rattle.model.proofs.Tests.{true-not-false}
 use Rattle.reach.specs.Graphs.{Collects}
 use Rattle.reach.proofs.Collect.{collect-first, collect-in, collect-out}
-use Rattle.exchange.specs.Tests.{testOn}
+use Rattle.exchange.specs.Tests.{testBy, scoreAt}
 use Rattle.exchange.proofs.wanted_by.Statement.{statement}
 use Rattle.exchange.proofs.wanted_by.Tie as tie
 
 abbrev Inv-loop : tie.InvT-loop
-Inv-loop rule seats g heights weights positions set₀ l₀ set l =
-    (l ≤ seats) × Collects l (λ k. testOn rule (record { heights = heights; weights = weights; positions = positions }) g k ≡ true) set
+Inv-loop kind seats g heights weights positions receiver set₀ l₀ set l =
+    (l ≤ seats)
+    × Collects l (λ k. testBy kind receiver (scoreAt (record { heights = heights; weights = weights; positions = positions }) k) ≡ true) set
 
 abbrev μ-loop : tie.MeasureT-loop
-μ-loop rule seats g heights weights positions set₀ l₀ set l = seats - l
+μ-loop kind seats g heights weights positions receiver set₀ l₀ set l = seats - l
 
 loop-holds : tie.Need-loop-holds Inv-loop μ-loop
 loop-holds c = (search needs, collect-first _)
@@ -31,7 +32,7 @@ loop-again : tie.Need-loop-again Inv-loop μ-loop
 loop-again c =
     let at = c .before .before .before .loop in
     let a = c .before .before .before .before .before .before .before .args in
-    let P : ℕ → Type 0 = λ k. testOn (a .rule) (a .scores) (a .g) k ≡ true in
+    let P : ℕ → Type 0 = λ k. testBy (a .kind) (scoreAt (a .scores) (a .g)) (scoreAt (a .scores) k) ≡ true in
     let answer = c .before .wanted .ensures in (
       search needs,
       ⊎-elim
@@ -52,13 +53,13 @@ wanted-by-spec =
     (tie.spec
     Inv-loop
     μ-loop
+    (λ c. search needs)
+    (λ c. search needs)
+    (λ c. search needs)
+    (λ c. search needs)
+    (λ c. search needs)
+    (λ c. search needs)
     loop-holds
-    (λ c. search needs)
-    (λ c. search needs)
-    (λ c. search needs)
-    (λ c. search needs)
-    (λ c. search needs)
-    (λ c. search needs)
     (λ c. search needs)
     (λ c. search needs)
     (λ c. search needs)

@@ -1,40 +1,46 @@
 -- `reach::union_over` meets its contract.
 use borrow.Author.Needs.{needs}
 use mathlib.Core.Path.{_≡_}
-use mathlib.Core.Logic.{⊎-elim}
-use Prim.Native.Nat.{_-_, _≤_}
+use Prim.Native.Nat.{_<_}
 use native.Mathlib.Omega.{arith}
 use lib.ListN.{length}
-use Rattle.reach.proofs.Members.{has-in, has-out}
-use Rattle.reach.proofs.Unions.{Below, first, passed, joined, last}
+use Rattle.masks.specs.Sets.{sizeOf}
+use Rattle.masks.proofs.Laws.{removed-shrinks}
+use Rattle.reach.proofs.Unions.{Passed, first, member, joined, last}
 use Rattle.reach.proofs.union_over.Statement.{statement}
 use Rattle.reach.proofs.union_over.Tie as tie
 
 abbrev Inv-loop : tie.InvT-loop
-Inv-loop set sets all₀ i₀ i-end all i = (i ≤ length sets) × Below set sets i all
+Inv-loop set sets all₀ left₀ all left = Passed set sets left all
 
 abbrev μ-loop : tie.MeasureT-loop
-μ-loop set sets all₀ i₀ i-end all i = length sets - i
+μ-loop set sets all₀ left₀ all left = sizeOf left
 
-loop-holds : tie.Need-loop-holds Inv-loop μ-loop
-loop-holds c = (search needs, first _ _)
+-- a member is the number of a set
+in-sets : (c : tie.After-lowest Inv-loop μ-loop) → c .lowest .result < length (c .before .before .before .before .args .sets .now)
+in-sets c =
+    let start = c .before .before .before .before in
+    start .pre _ (member _ _ _ _ (c .before .before .loop .inv) _ (c .lowest .ensures))
+
+mul-union : tie.Need-mul-union Inv-loop μ-loop
+mul-union c = let l = c .before .lowest .ensures .small in search needs
+
+shared-slice-read-union : tie.Need-shared-slice-read-union Inv-loop μ-loop
+shared-slice-read-union c = in-sets (c .before .before)
+
+loop-less : tie.Need-loop-less Inv-loop μ-loop
+loop-less c =
+    let low = c .before .before .before .lowest .ensures in
+    omega (arith, removed-shrinks _ _ _ (low .small) (low .here) (c .before .before .remove-lowest .ensures _ low))
 
 loop-again : tie.Need-loop-again Inv-loop μ-loop
 loop-again c =
-    let at = c .before .before .before .loop in
-    let answer = c .before .has .ensures in (
-      search needs,
-      ⊎-elim
-          (λ w. rw (w .3) (joined _ _ _ _ (at .inv .1) _ (w .2 .ensures) (has-in _ _ _ answer (w .0 .taken))))
-          (λ w. rw (w .1) (passed _ _ _ _ (at .inv .1) (has-out _ _ _ answer (w .0 .left))))
-          (c .if1 .came),
-    )
+    let low = c .before .before .before .lowest .ensures in
+    let gone = c .before .before .remove-lowest .ensures _ low in
+    joined _ _ _ _ (c .before .before .before .before .before .loop .inv) _ _ _ low gone (c .union .ensures)
 
 returns : tie.Need-returns Inv-loop μ-loop
-returns c =
-    let at = c .before .loop in
-    let e : at .i ≡ length (c .before .before .before .args .sets .now) = omega arith in
-    last _ _ _ (rw e at (at .inv .1))
+returns c = last _ _ _ _ (c .before .loop .inv) (c .loop-test .left)
 
 pub union-over-spec : {M : Type 1} → statement M
 union-over-spec =
@@ -42,12 +48,12 @@ union-over-spec =
     (tie.spec
     Inv-loop
     μ-loop
-    loop-holds
+    (λ c. first _ _)
     (λ c κs. search needs)
-    (λ c. search needs)
-    (λ c. search needs)
     (λ c κs. search needs)
-    (λ c. search needs)
-    (λ c. search needs)
+    mul-union
+    shared-slice-read-union
+    (λ c κs. search needs)
+    loop-less
     loop-again
     returns)
