@@ -7,6 +7,7 @@ use native.Mathlib.Decide.{ℕ-discrete}
 use native.Mathlib.Omega.{arith}
 use lib.ListN.{length, getD, set, replicate}
 use lib.Seq.{getD-set-same, getD-set-other}
+use Rattle.lists.proofs.Arrays.{zeros-at}
 use Rattle.fairness.specs.Instance.{Instance}
 use Rattle.fairness.specs.Exchange.{Possible}
 use Rattle.model.specs.Book.{Grid, cell}
@@ -18,7 +19,6 @@ use Rattle.instance.specs.declared.Terms.{Terms}
 use Rattle.instance.specs.Terms.{Told, Shows}
 use Rattle.reach.specs.declared.Graph.{Graph}
 use Rattle.reach.specs.Graphs.{setAt, Rows, Leads}
-use Rattle.reach.proofs.Collect.{rows-first}
 use Rattle.exchange.specs.Steps.{Drawn}
 
 -- ---- a further holder
@@ -91,8 +91,7 @@ Held sheet windows n sets = (w k : ℕ) → In k (setAt sets w) ↔ HasCredit sh
 
 pub held-first : (sheet : Sheet) (windows m : ℕ) → Held sheet windows 0 (replicate m 0)
 held-first sheet windows m w k =
-    let empty = rows-first (λ a b. Unit {0}) m w k in
-    (λ p. absurd (omega (arith, empty .0 p .0)), λ h. absurd (omega (arith, h .0)))
+    (λ p. absurd (omega (arith, rw (zeros-at m w) at p, bit-zero k)), λ h. absurd (omega (arith, h .0)))
 
 pub held-next : (sheet : Sheet) (windows n : ℕ) (sets sets′ cells : List ℕ) → Held sheet windows n sets
     → ((w : ℕ) → getD cells w 0 ≡ credit sheet n w) → Added sets cells n windows sets′ → Held sheet windows (n + 1) sets′

@@ -1,11 +1,11 @@
 -- A path that is walked back from the donor, layer by layer. Assumes nothing.
-use mathlib.Core.Path.{_≡_, refl, _∙_}
+use mathlib.Core.Path.{_≡_, refl}
 use mathlib.Core.Logic.{inl, inr}
 use mathlib.Core.List.{List, [], _∷_, map}
 use Prim.Native.Nat.{ℕ, suc, min, _<_, _≤_}
 use native.Mathlib.Decide.{ℕ-discrete}
 use native.Mathlib.Omega.{arith}
-use lib.ListN.{length, set, take, drop, length-take, length-set, length-map, drop-of-length-le}
+use lib.ListN.{length, set, take, drop, length-take, length-set, drop-of-length-le}
 use lib.Seq.{take-set-lt, drop-cons, getD-set-same, drop-set-lt}
 use Rattle.fairness.specs.Instance.{Instance}
 use Rattle.fairness.specs.Exchange as fairness
@@ -95,9 +95,6 @@ step-back graph sets moves donor count r giver m h l p f w =
 -- none are there at first
 pub stored-none : (ms : List Move) (n : ℕ) → n ≤ length ms → drop n (take n ms) ≡ []
 stored-none ms n h = drop-of-length-le (take n ms) {i = n} (omega (arith, length-take n ms))
-
-pub stored-length : (ms : List Move) (n : ℕ) → n ≤ length ms → length (map moveOf (take n ms)) ≡ n
-stored-length ms n h = length-map (take n ms) moveOf ∙ length-take n ms ∙ omega arith
 
 -- ---- a walk is a path
 

@@ -114,11 +114,11 @@ fn graph_of(sheet: Sheet, caps: Caps, t: Terms) -> Graph
     let windows = t.windows;
     let mut rooms = [0u32; 32];
     let mut holders = [0u32; 24];
-    for i in 0..seats {
-        let row = sheet.rows[i];
+    for seat in 0..seats {
+        let row = sheet.rows[seat];
         let cells = row.cells;
-        rooms[i] = below(cells, caps[i], windows);
-        let more = with_holder(holders, cells, windows, i);
+        rooms[seat] = below(cells, caps[seat], windows);
+        let more = with_holder(holders, cells, windows, seat);
         holders = more;
     }
     Graph { rooms, holders }

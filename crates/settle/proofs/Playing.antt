@@ -1,16 +1,15 @@
 -- A loop that plays the moves of an exchange path in turn. Assumes nothing.
 use mathlib.Core.Path.{_≡_, refl, ap, sym, _∙_, fun-ext}
-use mathlib.Core.List.{List, [], _∷_, map}
+use mathlib.Core.List.{List, [], _∷_}
 use Prim.Native.Nat.{ℕ, suc, _+_, _≤_, _<_}
 use native.Mathlib.Nat.{le-trans}
 use native.Mathlib.Numerals.{add-one}
 use native.Mathlib.Omega.{arith}
-use lib.ListN.{length, getD, take, drop, List·getD-map, drop-of-length-le}
-use lib.Seq.{drop-cons, getD-take}
+use lib.ListN.{length, getD, drop, drop-of-length-le}
+use lib.Seq.{drop-cons}
 use Rattle.fairness.specs.Instance.{Instance, Sheet}
 use Rattle.fairness.specs.Exchange.{Move, play, playAll, PlaysOut}
-use Rattle.sheet.specs.declared.Move as memory
-use Rattle.sheet.specs.Sheets.{moveOf, Playable}
+use Rattle.sheet.specs.Sheets.{Playable}
 use Rattle.sheet.proofs.Moves.{playable}
 use Rattle.settle.specs.Playing.{AllPlayable}
 
@@ -56,12 +55,3 @@ module _ (S : Sheet) (ms : List Move) where
   last k T played l i j =
       let done = ap (playAll T) (sym (drop-of-length-le ms l)) ∙ played .same in
       ap (λ (f : Sheet). f i j) done
-
--- what a move past the array's last one counts as
-abbrev noMove : memory.Move
-noMove = record { window = 0; giver = 0; taker = 0 }
-
--- a move of the array is one of the path
-pub move-at : (moves : List memory.Move) (n k : ℕ) → k < n
-    → getD (map moveOf (take n moves)) k (moveOf noMove) ≡ moveOf (getD moves k noMove)
-move-at moves n k l = List·getD-map moveOf (take n moves) k noMove ∙ ap moveOf (getD-take n moves k noMove l)

@@ -52,14 +52,5 @@ returns c =
 
 pub move-from-spec : {M : Type 1} → statement M
 move-from-spec =
-    tie.close
-    (tie.spec
-    (λ c. search needs)
-    column-requires
-    (λ c. search needs)
-    first-meeting-requires
-    mul-intersect
-    array-read-intersect
-    (λ c κs. search needs)
-    lowest-requires
-    returns)
+    tie.close (tie.spec (λ c. search needs) column-requires (λ c. search needs) first-meeting-requires mul-intersect array-read-intersect
+    (λ c κs. search needs) lowest-requires returns)

@@ -29,16 +29,5 @@ returns c = filled-at (c .before .loop .inv .0) (search needs)
 
 pub layers-spec : {M : Type 1} → statement M
 layers-spec =
-    tie.close
-    (tie.spec
-    Inv-loop
-    μ-loop
-    (λ c κs. search needs)
-    loop-holds
-    (λ c. search needs)
-    (λ c. search needs)
-    outward-requires
-    (λ c. search needs)
-    (λ c. search needs)
-    loop-again
-    returns)
+    tie.close (tie.spec Inv-loop μ-loop (λ c κs. search needs) loop-holds (λ c. search needs) (λ c. search needs) outward-requires
+    (λ c. search needs) (λ c. search needs) loop-again returns)

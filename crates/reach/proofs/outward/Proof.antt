@@ -41,14 +41,5 @@ returns c =
 
 pub outward-spec : {M : Type 1} → statement M
 outward-spec =
-    tie.close
-    (tie.spec
-    (λ c. search needs)
-    union-over-requires
-    (λ c κs. search needs)
-    (λ c. search needs)
-    union-over-requires-2
-    (λ c κs. search needs)
-    (λ c κs. search needs)
-    (λ c κs. search needs)
-    returns)
+    tie.close (tie.spec (λ c. search needs) union-over-requires (λ c κs. search needs) (λ c. search needs) union-over-requires-2
+    (λ c κs. search needs) (λ c κs. search needs) (λ c κs. search needs) returns)

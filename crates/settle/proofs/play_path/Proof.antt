@@ -4,9 +4,10 @@ use mathlib.Core.Path.{ap}
 use native.Mathlib.Omega.{arith}
 use mathlib.Core.List.{map}
 use lib.ListN.{length, take}
+use Rattle.lists.proofs.Alls.{taken-at}
 use Rattle.exchange.specs.Paths.{movesOf}
 use Rattle.sheet.specs.Sheets.{credit, moveOf}
-use Rattle.settle.proofs.Playing.{Played, first, this, next, last, move-at}
+use Rattle.settle.proofs.Playing.{Played, first, this, next, last}
 use borrow.Author.Needs.{needs}
 use Rattle.settle.proofs.play_path.Statement.{statement}
 use Rattle.settle.proofs.play_path.Tie as tie
@@ -36,7 +37,7 @@ play-requires c κs =
     let l = c .before .before .loop in
     let k : l .k < a .path .count = search needs in
     let inside : l .k < length (movesOf (a .path)) = omega (arith, c .before .before .before .before .pre .0 .counted) in
-    this _ _ (l .k) (credit (l .after)) (l .inv) inside _ _ (move-at (a .path .moves) (a .path .count) (l .k) k)
+    this _ _ (l .k) (credit (l .after)) (l .inv) inside _ _ (taken-at moveOf (a .path .moves) (a .path .count) (l .k) _ k)
 
 loop-again : tie.Need-loop-again Inv-loop μ-loop
 loop-again c =
@@ -44,7 +45,7 @@ loop-again c =
     let l = c .before .before .before .loop in
     let k : l .k < a .path .count = search needs in
     let inside : l .k < length (movesOf (a .path)) = omega (arith, c .before .before .before .before .before .pre .0 .counted) in
-    next _ _ (l .k) (credit (l .after)) (l .inv) inside _ _ (move-at (a .path .moves) (a .path .count) (l .k) k)
+    next _ _ (l .k) (credit (l .after)) (l .inv) inside _ _ (taken-at moveOf (a .path .moves) (a .path .count) (l .k) _ k)
     _ (λ i j. ap (λ (f : ℕ → ℕ → ℕ). f i j) (c .play .ensures))
 
 returns : tie.Need-returns Inv-loop μ-loop
@@ -54,15 +55,5 @@ returns c =
 
 pub play-path-spec : {M : Type 1} → statement M
 play-path-spec =
-    tie.close
-    (tie.spec
-    Inv-loop
-    μ-loop
-    loop-holds
-    mul-m
-    array-copy-out-m
-    play-requires
-    (λ c. search needs)
-    (λ c. search needs)
-    loop-again
+    tie.close (tie.spec Inv-loop μ-loop loop-holds mul-m array-copy-out-m play-requires (λ c. search needs) (λ c. search needs) loop-again
     returns)
