@@ -1,7 +1,7 @@
-// From any feasible sheet to a settled one of the same book.
+// From a sheet that is feasible and not wasteful to a settled one of the same book.
 ghost use mathlib.Core.Path.{_≡_};
 ghost use Prim.Native.Nat.{ℕ};
-ghost use Rattle.fairness.specs.Instance.{Instance, Feasible};
+ghost use Rattle.fairness.specs.Instance.{Instance};
 ghost use Rattle.fairness.specs.Exchange.{playAll, Settled};
 ghost use Rattle.sheet.specs.Sheets.{credit};
 ghost use Rattle.exchange.specs.Paths.{movesOf, Writable};
@@ -13,17 +13,6 @@ use exchange::Kind;
 use instance::Terms;
 use sheet::Caps;
 use sheet::Sheet;
-
-// All free credits handed out.
-pub fn fill_free(sheet: Sheet, caps: Caps, t: Terms) -> Sheet
-    requires { ⌜ Small t caps ⌝ }
-    requires { ⌜ Feasible (instanceIn t caps) (credit sheet) ⌝ }
-    ensures { λ r. ⌜ ((I : Instance) → Told I t caps → Full I (credit r)) ⌝ }
-{
-    let supplies = t.supplies;
-    let filled = fill::fill(sheet.to_grid(), &caps, supplies, t.seats, t.windows);
-    Sheet::from_grid(filled)
-}
 
 // The sheet after the moves of an exchange path, played one after another.
 pub fn play_path(sheet: Sheet, path: ExchangePath) -> Sheet
@@ -41,13 +30,13 @@ pub fn play_path(sheet: Sheet, path: ExchangePath) -> Sheet
     after
 }
 
-// A settled sheet of the same book: free credits are handed out, and exchange paths played until none is left.
+// A settled sheet of the same book: exchange paths are played until none is left.
 pub fn settle(sheet: Sheet, caps: Caps, t: Terms) -> Sheet
     requires { ⌜ Small t caps ⌝ }
-    requires { ⌜ Feasible (instanceIn t caps) (credit sheet) ⌝ }
+    requires { ⌜ Full (instanceIn t caps) (credit sheet) ⌝ }
     ensures { λ r. ⌜ ((I : Instance) → Told I t caps → Settled I (credit r)) ⌝ }
 {
-    let mut settled = fill_free(sheet, caps, t);
+    let mut settled = sheet;
     loop {
         let path = exchange::find_path(settled, caps, t);
         let kind = path.kind;

@@ -20,18 +20,18 @@ abbrev μ-loop : tie.MeasureT-loop
 μ-loop caps t settled₀ settled = measure (instanceIn t caps) (credit settled)
 
 loop-holds : tie.Need-loop-holds Inv-loop μ-loop
-loop-holds c = c .fill-free .ensures _ (told-in (c .before .args .t) (c .before .args .caps))
+loop-holds c = c .pre .1
 
 find-path-requires : tie.Need-find-path-requires Inv-loop μ-loop
-find-path-requires c κs = (c .before .before .pre .0, c .loop .inv .feasible)
+find-path-requires c κs = (c .before .pre .0, c .loop .inv .feasible)
 
 -- what the path of a turn is
 answers : (c : tie.After-find-path Inv-loop μ-loop) →
-    let b = c .before .before .before in
+    let b = c .before .before in
     let x = c .find-path .result in
     Answers (instanceIn (b .args .t) (b .args .caps)) (credit (c .before .loop .settled)) (x .kind) (x .receiver) (x .donor) (movesOf x)
 answers c =
-    let b = c .before .before .before in
+    let b = c .before .before in
     c .find-path .ensures .1 _ _ (told-in (b .args .t) (b .args .caps)) (shows-itself (b .args .t) (c .before .loop .settled))
 
 -- where a turn plays a path there is one
@@ -41,28 +41,28 @@ there c e = ⊎-elim (λ q. omega (arith, q)) (λ q. omega (arith, q)) (rw e at 
 returns : tie.Need-returns Inv-loop μ-loop
 returns c =
     let n = c .before .before in
-    let b = n .before .before .before in
+    let b = n .before .before in
     let last = turn-last (b .args .t) (b .args .caps) (b .pre .0) (n .before .loop .settled) (n .before .loop .inv) in
     last (n .find-path .result) (answers n) (c .enum-told .given .1)
 
 play-path-requires : tie.Need-play-path-requires Inv-loop μ-loop
 play-path-requires c κs =
     let n = c .before in
-    let b = n .before .before .before in
+    let b = n .before .before in
     let playable = turn-playable (b .args .t) (b .args .caps) (b .pre .0) (n .before .loop .settled) (n .before .loop .inv) in
     (n .find-path .ensures .0, playable (n .find-path .result) (answers n) (there c))
 
 loop-less : tie.Need-loop-less Inv-loop μ-loop
 loop-less c =
     let n = c .before .before in
-    let b = n .before .before .before in
+    let b = n .before .before in
     let less = turn-less (b .args .t) (b .args .caps) (b .pre .0) (n .before .loop .settled) (n .before .loop .inv) in
     less (n .find-path .result) (answers n) (there (c .before)) _ (c .play-path .ensures)
 
 loop-again : tie.Need-loop-again Inv-loop μ-loop
 loop-again c =
     let n = c .before .before in
-    let b = n .before .before .before in
+    let b = n .before .before in
     let full = turn-full (b .args .t) (b .args .caps) (b .pre .0) (n .before .loop .settled) (n .before .loop .inv) in
     full (n .find-path .result) (answers n) (there (c .before)) _ (c .play-path .ensures)
 
