@@ -14,16 +14,18 @@ use Rattle.dayfile.specs.Bounds.{Fit}
 use Rattle.dayfile.specs.Layout.{bookOf}
 use Rattle.dayfile.specs.Table.{refuse, firstOf, line16, readLines, markerLines, sheetLines, bufferLines, markLines, movesRoom}
 use Rattle.dayfile.specs.Outcome.{Outcome, turnedAway, answer}
-use Rattle.dayfile.specs.Memory.{front}
+use Rattle.dayfile.specs.Memory.{front, dayBook, Reads}
+use Rattle.dayfile.specs.declared.Reading.{Reading}
 use Rattle.dayfile.specs.declared.Written as Written
 use Rattle.dayfile.proofs.Answers.{answered, defined-refusal, defined-answer}
 use Rattle.dayfile.proofs.Lines.{none-parts}
 use Rattle.dayfile.proofs.Sound.{sound}
 use Rattle.dayfile.proofs.Accepted.{fits}
 use Rattle.marker.specs.declared.Marking.{Marking}
-use Rattle.marker.specs.declared.Marking.the-variants.{Refused}
 use Rattle.marker.specs.Marking.{sheetIn, markFile, told, results, PathWritten, BufferAfter, Marks}
+use Rattle.marker.specs.Wastes.{cellsIn}
 use Rattle.marker.proofs.Theorems.{marks-says, marks-buffer}
+use Rattle.marker.proofs.Files.{book-read, sheet-read}
 use Rattle.listing.specs.Listing.{listingOf, refusalLine, listingMax, Printed}
 use Rattle.listing.specs.Calls.{textOf, MovesOf, Listed, Lists}
 
@@ -49,9 +51,9 @@ module _ (file moves written : List ℕ) (r : Marking) (room : length moves ≡ 
   kept = rw room at (marks-buffer file moves written r marks)
 
   -- the file is refused
-  pub refused-text : (n p : ℕ) → r ≡ Refused n p → (before after : List ℕ) (size : ℕ) →
+  pub refused-text : (n p : ℕ) → told r ≡ turnedAway (refuse n p) → (before after : List ℕ) (size : ℕ) →
       Printed before (refusalLine n p) after size → Listed file before after size
-  refused-text n p e before after size printed = go (markFile file movesRoom) refl (ap told (sym e) ∙ says)
+  refused-text n p e before after size printed = go (markFile file movesRoom) refl (sym e ∙ says)
     where
       go : (o : Outcome Mark) → markFile file movesRoom ≡ o → turnedAway (refuse n p) ≡ results o → Listed file before after size
       go (turnedAway q) is same =
@@ -81,7 +83,7 @@ module _ (file moves written : List ℕ) (r : Marking) (room : length moves ≡ 
     unfolding markFile
     lines-passed = answered (firstOf (markLines file movesRoom)) (markOf (bookOf file) (sheetIn file)) (told-mark .mark) (told-mark .is)
 
-    pub passed : firstOf (sheetLines file) ≡ none
+    passed : firstOf (sheetLines file) ≡ none
     unfolding markLines
     passed = none-parts (sheetLines file) (bufferLines movesRoom movesRoom) (lines-passed .0) .0
 
@@ -120,7 +122,7 @@ module _ (file moves written : List ℕ) (r : Marking) (room : length moves ≡ 
       path-text m f is e count path the-moves =
           marked-text m is e (path .moves) _ (path .bytes) (count ∙ sym (path .count)) the-moves
 
-      pub marked-listed : Listed file before after n
+      marked-listed : Listed file before after n
       marked-listed = go (told-mark .mark) (told-mark .is) (told-mark .result) (rw (told-mark .is) at kept)
         where
           moves-of : (m : Mark) → x ≡ resultOf m → x .moves ≡ resultOf m .moves
@@ -133,3 +135,16 @@ module _ (file moves written : List ℕ) (r : Marking) (room : length moves ≡ 
               path-text (improvable f) f is e (moves-of (improvable f) e) kept′ (kept′ .path, kept′ .count)
           go (tied f) is e kept′ = path-text (tied f) f is e (moves-of (tied f) e) kept′ (kept′ .path, kept′ .count)
           go settled is e kept′ = marked-text settled is e [] written no-moves (moves-of settled e) refl
+
+    -- what was read of the file is its book and its sheet
+    module _ (y : Reading) (reads : Reads file y) where
+      pub fits-here : Fit (dayBook (y .day))
+      fits-here = rw (book-read file y reads passed) fit
+
+      pub day-listed : (before after : List ℕ) (n : ℕ) →
+          ((ms : List Move) (rest : List ℕ) → written ≡ moveBytes ms ++ rest → x .moves ≡ length ms →
+          Printed before (listingOf (dayBook (y .day)) (cellsIn (y .day .book) (y .day .sheet)) x ms) after n) →
+          Listed file before after n
+      day-listed before after n printed =
+          marked-listed before after n (λ ms rest stand count.
+          rw (book-read file y reads passed, sheet-read file y reads passed) at (printed ms rest stand count))

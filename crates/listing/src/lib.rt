@@ -19,7 +19,6 @@ ghost use Rattle.listing.specs.Calls.{Listed, Lists};
 use dayfile::Book;
 use dayfile::Day;
 use dayfile::Written;
-use marker::Marking;
 use marker::Numbers;
 use marker::lines::MOVES_ROOM;
 use sums::Sums;
@@ -76,11 +75,12 @@ fn put_text(file: &[u8], out: &mut [u8]) -> usize
     let reading = reader::read(file);
     let mut moves = [0u8; MOVES_ROOM];
     let marking = marker::mark_reading(file, reading, &mut moves);
-    if let Marking::Refused { number, at } = marking {
-        return put_refusal(out, number as usize, at);
+    let result = marking.numbers();
+    if result.mark == 0 {
+        return put_refusal(out, result.refusal as usize, result.offset);
     }
     let day = reading.day;
-    put_day(out, day, marking.numbers(), &moves)
+    put_day(out, day, result, &moves)
 }
 
 // The text that the program `mark` prints of a file, at the front of the buffer. A refusal of the file is a text as well: only a buffer

@@ -9,14 +9,13 @@ use lib.ListN.{length}
 use lib.Dec.{ltb}
 use borrow.Author.Tests.{ltb-false}
 use Rattle.model.specs.Lowest.{getOr}
-use Rattle.model.specs.Book.{Book, Grid}
+use Rattle.model.specs.Book.{Grid, Lawful}
 use Rattle.model.specs.Marks.{markOf, resultOf}
-use Rattle.dayfile.specs.Layout.{bookOf, sheetOf}
+use Rattle.dayfile.specs.Bounds.{Fit}
+use Rattle.dayfile.specs.Layout.{bookOf}
 use Rattle.dayfile.specs.Table.{refuse, firstOf, readLines, markerLines, sheetLines, bufferLines, markLines, movesRoom, line16}
-use Rattle.dayfile.specs.Outcome.{answer}
-use Rattle.dayfile.specs.Memory.{bookIn, sheetIn, dayBook, daySheet, refused, Reads}
+use Rattle.dayfile.specs.Memory.{bookIn, sheetIn, dayBook, Reads}
 use Rattle.dayfile.specs.declared.Book as Memory
-use Rattle.dayfile.specs.declared.Day.{Day}
 use Rattle.dayfile.specs.declared.Reading.{Reading}
 use Rattle.dayfile.proofs.Answers.{defined-refusal, defined-answer}
 use Rattle.dayfile.proofs.Lines.{none-holds, none-parts}
@@ -39,6 +38,27 @@ cells-of : (m : Memory.Book) (there : Bool) (sheet : Sheet) (s : Grid) → sheet
 cells-of m true sheet s e = ap (λ (o : Option Grid). getOr o []) e
 cells-of m false sheet s e = absurd (let z : _≡_ {A = ℕ} 0 1 = cc in omega arith)
 
+-- what was read of a file with a lawful sheet: its book and its sheet
+module _ (f : List ℕ) (r : Reading) (reads : Reads f r) (passed : firstOf (sheetLines f) ≡ none) where
+  sheet-parts : (firstOf (readLines f) ≡ none) × (firstOf (markerLines f) ≡ none)
+  unfolding sheetLines
+  sheet-parts = none-parts (readLines f) (markerLines f) passed
+
+  pub book-read : dayBook (r .day) ≡ bookOf f
+  book-read = read-day f r reads (sheet-parts .0) .0
+
+  pub fit-read : Fit (bookOf f)
+  fit-read = fits f (sound f (sheet-parts .0))
+
+  pub sheet-read : cellsIn (r .day .book) (r .day .sheet) ≡ marking.sheetIn f
+  sheet-read =
+      let s = has-sheet-of f (none-holds (markerLines f) (sheet-parts .1)) in
+      cells-of (r .day .book) (r .day .«has_sheet») (r .day .sheet) (s .0) (read-day f r reads (sheet-parts .0) .1 ∙ s .1)
+      ∙ ap (λ (o : Option Grid). getOr o []) (sym (s .1))
+
+  pub lawful-read : Lawful (bookOf f) (marking.sheetIn f)
+  lawful-read = accepted-lawful f (none-holds (markerLines f) (sheet-parts .1))
+
 -- a refusal
 pub refused-marks : (f before : List ℕ) (n p : ℕ) → firstOf (markLines f (length before)) ≡ some (refuse n p) →
     Marks f before before (Refused n p)
@@ -50,32 +70,24 @@ module _ (f before : List ℕ) (passed : firstOf (markLines f (length before)) �
   unfolding markLines
   parts = none-parts (sheetLines f) (bufferLines (length before) movesRoom) passed
 
-  sheet-parts : (firstOf (readLines f) ≡ none) × (firstOf (markerLines f) ≡ none)
-  unfolding sheetLines
-  sheet-parts = none-parts (readLines f) (markerLines f) (parts .0)
-
   pub has-room : movesRoom ≤ length before
   unfolding bufferLines line16
   has-room =
       let e = none-holds (bufferLines (length before) movesRoom) (parts .1) in
       ltb-false (length before) movesRoom (when-none (ltb (length before) movesRoom) movesRoom (e .0))
 
-  -- what was read: the book and the sheet of the file
   module _ (r : Reading) (reads : Reads f r) (caps : Grid) (caps-are : caps ≡ gridOf (r .day .caps)) where
     book-is : bookIn (r .day .book) caps ≡ bookOf f
-    book-is = ap (bookIn (r .day .book)) caps-are ∙ read-day f r reads (sheet-parts .0) .0
+    book-is = ap (bookIn (r .day .book)) caps-are ∙ book-read f r reads (parts .0)
 
     sheet-is : cellsIn (r .day .book) (r .day .sheet) ≡ marking.sheetIn f
-    sheet-is =
-        let s = has-sheet-of f (none-holds (markerLines f) (sheet-parts .1)) in
-        cells-of (r .day .book) (r .day .«has_sheet») (r .day .sheet) (s .0) (read-day f r reads (sheet-parts .0) .1 ∙ s .1)
-        ∙ ap (λ (o : Option Grid). getOr o []) (sym (s .1))
+    sheet-is = sheet-read f r reads (parts .0)
 
     pub markable : Markable (r .day .book) caps (r .day .sheet)
     markable =
         record {
-          fit = rw book-is (fits f (sound f (sheet-parts .0)));
-          lawful = rw (book-is, sheet-is) (accepted-lawful f (none-holds (markerLines f) (sheet-parts .1)));
+          fit = rw book-is (fit-read f r reads (parts .0));
+          lawful = rw (book-is, sheet-is) (lawful-read f r reads (parts .0));
         }
 
     -- the mark

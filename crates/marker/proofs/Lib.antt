@@ -7,7 +7,8 @@ pub mod Fair
 pub mod Memory
 pub mod Accepted
 pub mod Files
--- demands 1 and 3
+-- for callers: what an answer's numbers tell, and demand 3
+pub mod Telling
 pub mod Taken
 pub mod Decode
 pub mod Theorems

@@ -34,13 +34,14 @@ told (Improvable moves) = answer (record { mark = 2; window = 0; seat = 0; moves
 told (Tied moves) = answer (record { mark = 3; window = 0; seat = 0; moves = moves })
 told Settled = answer (record { mark = 4; window = 0; seat = 0; moves = 0 })
 
--- the same numbers in memory, all of them 0 at a refusal
+-- the same in memory: of a refusal its number and its offset; what an answer does not use is 0
+abbrev pub numbersOf : Outcome Result → Numbers
+numbersOf (turnedAway q) = record { refusal = q .number; offset = q .at; mark = 0; window = 0; seat = 0; moves = 0 }
+numbersOf (answer x) =
+    record { refusal = 0; offset = 0; mark = x .mark; window = x .window; seat = x .seat; moves = x .moves }
+
 abbrev pub resultIn : Numbers → Result
 resultIn n = record { mark = n .mark; window = n .window; seat = n .seat; moves = n .moves }
-
-abbrev pub numbersOf : Outcome Result → Result
-numbersOf (turnedAway q) = record { mark = 0; window = 0; seat = 0; moves = 0 }
-numbersOf (answer r) = r
 
 abbrev pub results : Outcome Mark → Outcome Result
 results (turnedAway q) = turnedAway q

@@ -5,11 +5,12 @@ ghost use lib.ListN.{length};
 ghost use Rattle.fairness.specs.Instance.{Feasible};
 ghost use Rattle.model.specs.Book as model;
 ghost use Rattle.model.specs.Marks.{markOf};
-ghost use Rattle.sheet.specs.Sheets.{credit, gridOf};
+ghost use Rattle.sheet.specs.Sheets.{credit};
 ghost use Rattle.dayfile.specs.Table.{movesRoom};
 ghost use Rattle.dayfile.specs.Memory.{bookIn, Reads};
 ghost use Rattle.instance.specs.Terms.{instanceIn, Told, Shows, Small};
-ghost use Rattle.marker.specs.Marking.{told, resultIn, numbersOf, Marks};
+ghost use Rattle.dayfile.specs.Outcome.{answer};
+ghost use Rattle.marker.specs.Marking.{told, numbersOf, Marks};
 ghost use Rattle.marker.specs.Wastes.{cellsIn};
 ghost use Rattle.marker.specs.Steps.{fairMark, MarkedAs, Markable};
 use dayfile::Book;
@@ -36,38 +37,49 @@ pub enum Marking {
     Settled,
 }
 
-// A mark, and the numbers that come with it; those that it does not use are 0.
+// An answer in numbers: a refusal's number and offset, or a mark and what comes with it. What an answer does not use is 0.
 pub struct Numbers {
+    pub refusal: u8,
+    pub offset: usize,
     pub mark: u8,
     pub window: usize,
     pub seat: usize,
     pub moves: usize,
 }
 
-impl Marking {
-    // The numbers of an answer; all are 0 at a refusal.
-    pub fn numbers(self) -> Numbers
-        ensures { λ r. ⌜ resultIn r ≡ numbersOf (told self) ⌝ }
-    {
-        match self {
-            Marking::Refused { number: _, at: _ } => Numbers::new(0, 0, 0, 0),
-            Marking::Wasteful { window, seat } => Numbers::new(1, window, seat, 0),
-            Marking::Improvable { moves } => Numbers::new(2, 0, 0, moves),
-            Marking::Tied { moves } => Numbers::new(3, 0, 0, moves),
-            Marking::Settled => Numbers::new(4, 0, 0, 0),
-        }
-    }
-}
-
 impl Numbers {
-    fn new(mark: u8, window: usize, seat: usize, moves: usize) -> Numbers
-        ensures { λ r. ⌜ r ≡ record { mark = mark; window = window; seat = seat; moves = moves } ⌝ }
+    // The numbers of a mark.
+    fn of_mark(mark: u8, window: usize, seat: usize, moves: usize) -> Numbers
+        ensures { λ r. ⌜ r ≡ numbersOf (answer (record { mark = mark; window = window; seat = seat; moves = moves })) ⌝ }
     {
         Numbers {
+            refusal: 0,
+            offset: 0,
             mark,
             window,
             seat,
             moves,
+        }
+    }
+}
+
+impl Marking {
+    pub fn numbers(self) -> Numbers
+        ensures { λ r. ⌜ r ≡ numbersOf (told self) ⌝ }
+    {
+        match self {
+            Marking::Refused { number, at } => Numbers {
+                refusal: number,
+                offset: at,
+                mark: 0,
+                window: 0,
+                seat: 0,
+                moves: 0,
+            },
+            Marking::Wasteful { window, seat } => Numbers::of_mark(1, window, seat, 0),
+            Marking::Improvable { moves } => Numbers::of_mark(2, 0, 0, moves),
+            Marking::Tied { moves } => Numbers::of_mark(3, 0, 0, moves),
+            Marking::Settled => Numbers::of_mark(4, 0, 0, 0),
         }
     }
 }

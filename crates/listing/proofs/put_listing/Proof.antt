@@ -24,7 +24,8 @@ fits c =
     let totals = below w32 (a .sums .totals) (λ i. search needs) in
     let moves = below w8 (a .moves .now) (c .shared-slice-known .given) in
     let book = listing-le (a .book .seats) (a .book .windows) _ _ _ _ (search needs) (search needs) classes supplies placed totals in
-    front-room (book (resultIn (a .result)) _ (search needs) (search needs) (search needs) moves (search needs)) (s .pre .0)
+    let known = s .good .1 .1 .1 .0 in
+    front-room (book (resultIn (a .result)) _ (search known) (search known) (search known) moves (s .pre .1 .1 .0)) (s .pre .0)
 
 put-book-lines-requires : tie.Need-put-book-lines-requires
 unfolding listingText
