@@ -6,11 +6,11 @@ ghost use Rattle.dayfile.specs.Table.{sizeRight, firstOf, lengthLines};
 ghost use Rattle.dayfile.specs.Memory.{found, refused};
 use crate::entries::Test;
 use crate::entries::wrong_entry;
-use crate::fields::size;
 use dayfile::Check;
 use dayfile::Found;
 use dayfile::first_of;
 use dayfile::within;
+use fields::size;
 
 // Low to high, and even.
 fn size_right(low: usize, high: usize, n: usize) -> bool

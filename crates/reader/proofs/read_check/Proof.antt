@@ -1,6 +1,6 @@
-use mathlib.Core.Path.{sym, _∙_, ap}
+use mathlib.Core.Path.{sym, _∙_}
 use borrow.Author.Needs.{needs}
-use Rattle.dayfile.specs.Table.{firstOf, contentsLines, lengthLines, valueLines, optionLines, readLines}
+use Rattle.dayfile.specs.Table.{contentsLines, lengthLines, valueLines, readLines}
 use Rattle.dayfile.proofs.Lines.{stop-in, on-after}
 use Rattle.dayfile.proofs.Answers.{refuses, passes}
 use Rattle.reader.proofs.read_check.Statement.{statement}

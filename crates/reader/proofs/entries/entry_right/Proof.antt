@@ -1,5 +1,4 @@
 use mathlib.Core.Path.{ap, ap₂, _∙_, sym}
-use Prim.Native.Nat.{ℕ}
 use lib.Dec.{eqb}
 use denote.Ref.{now}
 use borrow.Author.Needs.{needs}
