@@ -68,5 +68,5 @@ loop-again c =
 
 pub settle-spec : {M : Type 1} → statement M
 settle-spec =
-    tie.close (tie.spec Inv-loop μ-loop (λ c κs. c .pre) loop-holds find-path-requires (λ c. search needs) returns play-path-requires
+    tie.close (tie.spec Inv-loop μ-loop loop-holds find-path-requires (λ c. search needs) returns play-path-requires
     loop-less loop-again)
