@@ -30,56 +30,22 @@ use Rattle.marker.specs.Marking as marker
 use Rattle.planner.specs.Planning.{Planned, Plans}
 use Rattle.report.specs.Report.{Listed, Lists}
 
--- ---- what the contracts of the reader and the writer say of a file and of a book in memory
-
--- the answers of the reader's five calls
-pub record Answers : Type 0 where
-  pub check : Check
-  pub book : Memory.Book
-  pub caps : Grid
-  pub there : Bool
-  pub sheet : Grid
-
--- their contracts on one file: read_check, read_book, read_caps, has_sheet, read_sheet
-pub record Reads (file : List ℕ) (a : Answers) : Type 0 where
-  pub checked : refused (a .check) ≡ firstOf (readLines file)
-  pub holds : Holds (bookOf file) (a .book)
-  pub caps-are : a .caps ≡ held (bookOf file .caps)
-  pub there-is : a .there ≡ isSome (sheetOf file)
-  pub sheet-is : a .sheet ≡ heldIf (sheetOf file)
-
--- the file of what is in memory
-abbrev pub fileFrom : Answers → List ℕ
-fileFrom a = fileIn (a .book) (a .caps) (a .there) (a .sheet)
-
--- the writer's contract on what is in memory
-abbrev pub WritesFrom : Answers → (before after : List ℕ) → Written → Type 0
-WritesFrom a before after r = Writes (writeLines (fileFrom a)) (fileFrom a) before r after
-
 -- ---- Demand 1: each call gives a defined outcome or a numbered refusal, and a refusal changes no byte.
 
--- a call that goes down these lines of the table, answers o and leaves `after` in its buffer: it refuses exactly with the first line that
--- holds, and then the buffer is as it was; where no line holds it gives an answer that is right
-pub record Defined {A : Type 0} (lines : List Line) (before after : List ℕ) (o : Outcome A) (Right : A → Type 0) : Type 0 where
-  pub refuses : (q : Refusal) → (o ≡ turnedAway q) ↔ FirstHolds lines q
-  pub unchanged : (q : Refusal) → o ≡ turnedAway q → after ≡ before
-  pub gives : NoneHolds lines → (x : A) × ((o ≡ answer x) × Right x)
-
--- for every file, book and buffer
+-- for every file, book and buffer, by the contract of each call: `Defined` is beside `Outcome` in crates/dayfile/specs
 pub record Demand1 : Type 0 where
-  -- the reader has no buffer; its answer is the book and the sheet, or its absence, that stand in the file
-  pub reader : (file : List ℕ) (a : Answers) → Reads file a →
-      Defined (readLines file) [] [] (reading (a .check) (a .book) (a .caps) (a .there) (a .sheet))
-      (λ (x : Book × Option Grid). x ≡ (bookOf file, sheetOf file))
+  -- the reader has no buffer; its answer holds the book and the sheet, or its absence, that stand in the file
+  pub reader : (file : List ℕ) (r : Reading) → Reads file r →
+      Defined (readLines file) [] [] (reading r) (λ d. (dayBook d ≡ bookOf file) × (daySheet d ≡ sheetOf file))
   -- the writer's is the file's length, and the file stands at the buffer's front
-  pub writer : (a : Answers) (before after : List ℕ) (r : Written) → WritesFrom a before after r →
-      Defined (writeLines (fileFrom a) (length before)) before after (written r)
-      (λ n. (n ≡ length (fileFrom a)) × (after ≡ front (fileFrom a) before))
+  pub writer : (d : Day) (before after : List ℕ) (r : Written) → WritesDay d before after r →
+      Defined (writeLines (fileIn d) (length before)) before after (written r)
+      (λ n. (n ≡ length (fileIn d)) × (after ≡ front (fileIn d) before))
   -- the marker's is the result of the mark that the rules give; marks 2 and 3 have their path at the buffer's front
   pub marker : (file before after : List ℕ) (r : Marking) → Marks file before after r →
       Defined (markLines file (length before)) before after (told r)
       (λ x. (x ≡ resultOf (markOf (bookOf file) (marker.sheetIn file)))
-      × BufferAfter (bookOf file) (marker.sheetIn file) (answer (markOf (bookOf file) (marker.sheetIn file))) before after)
+      × BufferAfter (bookOf file) (marker.sheetIn file) (markOf (bookOf file) (marker.sheetIn file)) before after)
   -- the planner's is the planned file's length, and the file with a settled sheet stands at the buffer's front
   pub planner : (file before after : List ℕ) (r : Written) → Plans file before after r →
       Defined (planLines file (length before)) before after (written r)
@@ -107,12 +73,12 @@ pub record Demand2 : Type 0 where
   pub wasteful : (b : Book) (s : Grid) → Lawful b s →
       Wasteful (instanceOf b) (cell s) ↔ (NonWasteful (instanceOf b) (cell s) → ⊥)
   -- what the writer wrote, read from the buffer's front, is the book and the sheet that were in memory (the planner's: see demand 3)
-  pub written-reads-back : (a : Answers) (before after : List ℕ) (n : ℕ) → WritesFrom a before after (Whole n) →
-      readFile (take n after) ≡ answer (bookIn (a .book) (a .caps), sheetIn (a .book) (a .there) (a .sheet))
+  pub written-reads-back : (d : Day) (before after : List ℕ) (n : ℕ) → WritesDay d before after (Whole n) →
+      readFile (take n after) ≡ answer (dayBook d, daySheet d)
   -- what the reader read of an accepted file, written to a buffer that is long enough, has the file's bytes
-  pub same-bytes : (file : List ℕ) → Bytes file → NoneHolds (readLines file) → (a : Answers) → Reads file a →
-      (before after : List ℕ) (r : Written) → length file ≤ length before → WritesFrom a before after r →
-      (r ≡ Whole (length file)) × (after ≡ front file before)
+  pub same-bytes : (file : List ℕ) → Bytes file → NoneHolds (readLines file) → (r : Reading) → Reads file r →
+      (before after : List ℕ) (w : Written) → length file ≤ length before → WritesDay (r .day) before after w →
+      (w ≡ Whole (length file)) × (after ≡ front file before)
 
 -- ---- Demand 3: the marker passes a lawful sheet exactly when its sorted list of levels equals the highest of all lawful sheets; the
 -- planner's sheet always passes; the chain of a failing sheet, played move by move, is possible at every turn and ends in a lawful sheet

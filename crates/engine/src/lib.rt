@@ -4,9 +4,9 @@ ghost use Rattle.fairness.specs.Instance.{Instance, Feasible};
 ghost use Rattle.fairness.specs.Exchange.{Settled};
 ghost use Rattle.sheet.specs.Sheets.{credit};
 ghost use Rattle.instance.specs.Terms.{instanceIn, Told, Small};
+use instance::Terms;
 use sheet::Caps;
 use sheet::Sheet;
-use instance::Terms;
 
 // A settled sheet, from any feasible sheet of these terms.
 pub fn settled_from(sheet: Sheet, t: Terms, caps: Caps) -> Sheet

@@ -6,8 +6,8 @@ ghost use Rattle.fairness.specs.Instance.{Feasible};
 ghost use Rattle.model.specs.Book.{cell, Shaped};
 ghost use Rattle.instance.specs.Terms.{instanceIn};
 ghost use Rattle.fill.specs.Fills.{FeasibleAt, Handed, Filled};
-use sheet::Caps;
 use instance::Terms;
+use sheet::Caps;
 
 pub fn lesser(a: u16, b: u16) -> u16
     ensures { λ r. ⌜ r ≡ min a b ⌝ }

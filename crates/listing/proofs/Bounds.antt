@@ -8,6 +8,7 @@ use mir.Syntax.{Width}
 use mir.Val.{Fits, bits}
 use lib.Dec.{eqb}
 use lib.ListN.{length, getD, length-append}
+use Rattle.model.specs.Marks.{Result}
 use Rattle.text.specs.Text.{ascii, decimal, fourDigits, openingTime}
 use Rattle.text.proofs.Digits.{decimal-le, four-length}
 use Rattle.listing.specs.Listing.{
@@ -129,19 +130,18 @@ module _ (n m : ℕ) (classes supplies placed totals : List ℕ) (hn : n ≤ 32)
         (λ i h. seat-le i (getD classes i 0) (getD totals i 0) (omega arith) (hc i) (ht i)) in
         simp length-append (omega (arith, head, windows, seats))
 
-    module _ (mark window seat : ℕ) (moves : List ℕ) (count : ℕ) (hk : mark < 256) (hw : window < 2 ^ 64) (hi : seat < 2 ^ 64)
-        (hv : Below 256 moves) (hu : count ≤ 31)
+    module _ (r : Result) (moves : List ℕ) (hk : r .mark < 256) (hw : r .window < 2 ^ 64) (hi : r .seat < 2 ^ 64)
+        (hv : Below 256 moves) (hu : r .moves ≤ 31)
       where
-        result-le : length (resultLines mark window seat moves count) ≤ 9 + 31 * 32
+        result-le : length (resultLines r moves) ≤ 9 + 31 * 32
         unfolding resultLines
-        result-le = go (eqb mark 1) (last-le (ascii "mark ") 2 mark (omega arith)) (moves-le moves count hv)
+        result-le = go (eqb (r .mark) 1) (last-le (ascii "mark ") 2 (r .mark) (omega arith)) (moves-le moves (r .moves) hv)
           where
-            go : (b : Bool) → length (lastField "mark " mark) ≤ 9 → length (moveLines count moves) ≤ count * 32
-                → length (lastField "mark " mark ++ pick b (leftLine window seat) (moveLines count moves)) ≤ 9 + 31 * 32
-            go true first moved = simp length-append (omega (arith, first, left-le window seat hw hi))
+            go : (b : Bool) → length (lastField "mark " (r .mark)) ≤ 9 → length (moveLines (r .moves) moves) ≤ r .moves * 32
+                → length (lastField "mark " (r .mark) ++ pick b (leftLine (r .window) (r .seat)) (moveLines (r .moves) moves)) ≤ 9 + 31 * 32
+            go true first moved = simp length-append (omega (arith, first, left-le (r .window) (r .seat) hw hi))
             go false first moved = simp length-append (omega (arith, first, moved))
 
-        pub listing-le :
-            length (listingText n m classes supplies placed totals mark window seat moves count) ≤ listingMax
+        pub listing-le : length (listingText n m classes supplies placed totals r moves) ≤ listingMax
         unfolding listingText
         listing-le = simp length-append (omega (arith, book-le, result-le))

@@ -5,8 +5,9 @@ use Prim.Native.Nat.{ℕ, _≤_}
 use native.Mathlib.Omega.{arith}
 use borrow.Author.Tests.{eq-eqb, ne-eqb}
 use lib.ListN.{length}
-use Rattle.text.specs.Text.{Room, Stored}
-use Rattle.text.proofs.Buffer.{put-front}
+use Rattle.model.specs.Marks.{Result}
+use Rattle.lists.specs.Buffers.{Room, Stored}
+use Rattle.lists.proofs.Buffers.{put-front}
 use Rattle.listing.specs.Listing.{leftLine, moveLines, resultLines, lastField, Printed}
 
 pub front-room : {b text : List ℕ} {k : ℕ} → length text ≤ k → k ≤ length b → Room b 0 text
@@ -16,11 +17,11 @@ pub printed : {b text b′ : List ℕ} {n : ℕ} → Room b 0 text → Stored b 
 printed {b} {text} r s =
     record { buffer = s .buffer ∙ put-front b text (omega (arith, r .fits)); size = omega (arith, s .place) }
 
-module _ (mark window seat : ℕ) (moves : List ℕ) (count : ℕ) where
-  pub result-left : mark ≡ 1 → resultLines mark window seat moves count ≡ lastField "mark " mark ++ leftLine window seat
+module _ (r : Result) (moves : List ℕ) where
+  pub result-left : r .mark ≡ 1 → resultLines r moves ≡ lastField "mark " (r .mark) ++ leftLine (r .window) (r .seat)
   unfolding resultLines
-  result-left e = rw (eq-eqb mark 1 e)
+  result-left e = rw (eq-eqb (r .mark) 1 e)
 
-  pub result-moves : (mark ≡ 1 → ⊥) → resultLines mark window seat moves count ≡ lastField "mark " mark ++ moveLines count moves
+  pub result-moves : (r .mark ≡ 1 → ⊥) → resultLines r moves ≡ lastField "mark " (r .mark) ++ moveLines (r .moves) moves
   unfolding resultLines
-  result-moves e = rw (ne-eqb mark 1 e)
+  result-moves e = rw (ne-eqb (r .mark) 1 e)

@@ -9,7 +9,7 @@ use Rattle.fairness.specs.Exchange.{Move}
 use Rattle.model.specs.Book.{Book, Grid, cell, seats, windows, instanceOf, totals}
 use Rattle.model.specs.Marks.{Result, moveBytes}
 use Rattle.model.proofs.Moves.{move-bytes-length}
-use Rattle.model.proofs.Grids.{table-at}
+use Rattle.lists.proofs.Tables.{table-at}
 use Rattle.listing.specs.Listing.{
   windowLine,
   seatLine,
@@ -27,7 +27,7 @@ use Rattle.listing.specs.Listing.{
 -- ---- the same numbers give the same text
 
 -- two lists have the same first k entries
-pub record Agree (k : ℕ) (xs ys : List ℕ) : Type 0 where
+record Agree (k : ℕ) (xs ys : List ℕ) : Type 0 where
   pub entry : (i : ℕ) → i < k → getD xs i 0 ≡ getD ys i 0
 
 lines-same : (f g : ℕ → List ℕ) (n : ℕ) → ((j : ℕ) → j < n → f j ≡ g j) → lines n f ≡ lines n g
@@ -53,36 +53,38 @@ moves-same count {moves} {moves′} h =
     (λ k l. ap₂ (λ (f : ℕ → List ℕ) (t : ℕ). f t)
     (ap₂ moveLine (h .entry (k * 3) (omega arith)) (h .entry (k * 3 + 1) (omega arith))) (h .entry (k * 3 + 2) (omega arith)))
 
-pub listing-same : (n m mark window seat count : ℕ)
+listing-same : (n m : ℕ) (r : Result)
     {classes classes′ supplies supplies′ placed placed′ totals totals′ moves moves′ : List ℕ}
     → Agree n classes classes′ → Agree m supplies supplies′ → Agree m placed placed′ → Agree n totals totals′
-    → Agree (count * 3) moves moves′
-    → listingText n m classes supplies placed totals mark window seat moves count
-    ≡ listingText n m classes′ supplies′ placed′ totals′ mark window seat moves′ count
+    → Agree (r .moves * 3) moves moves′
+    → listingText n m classes supplies placed totals r moves ≡ listingText n m classes′ supplies′ placed′ totals′ r moves′
 unfolding listingText bookLines resultLines
-listing-same n m mark window seat count hc hs hp ht hv = rw (windows-same m hs hp, seats-same n hc ht, moves-same count hv)
+listing-same n m r hc hs hp ht hv = rw (windows-same m hs hp, seats-same n hc ht, moves-same (r .moves) hv)
 
 -- ---- a book in memory
 
 -- the numbers are those of the book and the sheet, and the first moves those of the list
-pub record InMemory (b : Book) (s : Grid) (ms : List Move) (classes supplies given summed moves : List ℕ) (count : ℕ) : Type 0 where
-  pub class : Agree (seats b) classes (b .classes)
-  pub supply : Agree (windows b) supplies (b .supplies)
+pub record InMemory (b : Book) (s : Grid) (ms : List Move) (classes supplies given summed moves : List ℕ) : Type 0 where
+  pub class : (i : ℕ) → i < seats b → getD classes i 0 ≡ getD (b .classes) i 0
+  pub supply : (j : ℕ) → j < windows b → getD supplies j 0 ≡ getD (b .supplies) j 0
   pub window-placed : (j : ℕ) → j < windows b → getD given j 0 ≡ placed (instanceOf b) (cell s) j
   pub seat-total : (i : ℕ) → i < seats b → getD summed i 0 ≡ total (instanceOf b) (cell s) i
-  pub written : Agree (count * 3) moves (moveBytes ms)
+  pub rest : List ℕ
+  pub written : moves ≡ moveBytes ms ++ rest
 
 pub listing-is : {b : Book} {s : Grid} {ms : List Move} {classes supplies given summed moves : List ℕ} (r : Result)
-    → InMemory b s ms classes supplies given summed moves (r .moves)
-    → listingText (seats b) (windows b) classes supplies given summed (r .mark) (r .window) (r .seat) moves (r .moves) ≡ listingOf b s r ms
+    → r .moves ≡ length ms → InMemory b s ms classes supplies given summed moves
+    → listingText (seats b) (windows b) classes supplies given summed r moves ≡ listingOf b s r ms
 unfolding listingOf totals
-listing-is {b} {s} r h =
-    listing-same _ _ _ _ _ (r .moves) (h .class) (h .supply)
+listing-is {b} {s} {ms} r count h =
+    listing-same _ _ r
+    (record { entry = h .class })
+    (record { entry = h .supply })
     (record { entry = λ j l. h .window-placed j l ∙ sym (table-at _ _ j 0 l) })
     (record { entry = λ i l. h .seat-total i l ∙ sym (table-at _ _ i 0 l) })
-    (h .written)
-
--- moves that stand at a buffer's front
-pub at-front : (ms : List Move) (rest : List ℕ) → Agree (length ms * 3) (moveBytes ms ++ rest) (moveBytes ms)
-at-front ms rest =
-    record { entry = λ k h. List·getD-append (moveBytes ms) rest 0 k (omega (arith, move-bytes-length ms)) }
+    (rw (h .written, count) (at-front ms (h .rest)))
+  where
+    -- moves that stand at a buffer's front
+    at-front : (ms : List Move) (rest : List ℕ) → Agree (length ms * 3) (moveBytes ms ++ rest) (moveBytes ms)
+    at-front ms rest =
+        record { entry = λ k h. List·getD-append (moveBytes ms) rest 0 k (omega (arith, move-bytes-length ms)) }

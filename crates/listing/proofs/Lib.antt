@@ -1,6 +1,8 @@
 -- What is known of listings.
 pub mod Sample
-pub mod Lines
+pub mod Growing
 pub mod Bounds
 pub mod Fronts
 pub mod Instance
+pub mod Memory
+pub mod Listed

@@ -1,2 +1,4 @@
 -- The text that the program `mark` prints.
 pub mod Listing
+-- What stands in the output buffer after the call.
+pub mod Calls

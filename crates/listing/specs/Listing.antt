@@ -95,22 +95,19 @@ pick true xs ys = xs
 pick false xs ys = ys
 
 -- the mark, with the window and seat of mark 1, and the moves of marks 2 and 3; mark 4 has none
-unfoldable pub resultLines : (mark window seat : ℕ) (moves : List ℕ) (count : ℕ) → List ℕ
-resultLines mark window seat moves count =
-    lastField "mark " mark ++ pick (eqb mark 1) (leftLine window seat) (moveLines count moves)
+unfoldable pub resultLines : Result → (moves : List ℕ) → List ℕ
+resultLines r moves =
+    lastField "mark " (r .mark) ++ pick (eqb (r .mark) 1) (leftLine (r .window) (r .seat)) (moveLines (r .moves) moves)
 
 -- a listing, from plain numbers: n seats, m windows
-unfoldable pub listingText : (n m : ℕ) (classes supplies placed totals : List ℕ)
-    → (mark window seat : ℕ) (moves : List ℕ) (count : ℕ) → List ℕ
-listingText n m classes supplies placed totals mark window seat moves count =
-    bookLines n m classes supplies placed totals ++ resultLines mark window seat moves count
+unfoldable pub listingText : (n m : ℕ) (classes supplies placed totals : List ℕ) → Result → (moves : List ℕ) → List ℕ
+listingText n m classes supplies placed totals r moves = bookLines n m classes supplies placed totals ++ resultLines r moves
 
 -- the listing of a book, a sheet, its mark's result and the moves that the marker wrote
 unfoldable pub listingOf : Book → Grid → Result → List Move → List ℕ
 listingOf b s r moves =
     listingText (seats b) (windows b)
-    (b .classes) (b .supplies) (table (windows b) (placed (instanceOf b) (cell s))) (totals b s)
-    (r .mark) (r .window) (r .seat) (moveBytes moves) (r .moves)
+    (b .classes) (b .supplies) (table (windows b) (placed (instanceOf b) (cell s))) (totals b s) r (moveBytes moves)
 
 -- ---- output buffers
 

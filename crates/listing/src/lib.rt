@@ -1,23 +1,28 @@
-// The text that the program `mark` prints, written to the front of an output buffer. Seats and windows count from 0 here and from 1 in
-// the text.
+// The text that the program `mark` prints of a file, written to the front of an output buffer.
 mod line;
+mod lines;
 mod part;
+pub mod sums;
 
-ghost use Prim.Native.Nat.{_≤_, _*_};
+ghost use mathlib.Core.Path.{_≡_};
+ghost use mathlib.Core.List.{List, _++_};
+ghost use Prim.Native.Nat.{ℕ, _≤_, _*_};
 ghost use lib.ListN.{length};
-ghost use Rattle.text.specs.Text.{Room, Stored};
-ghost use Rattle.listing.specs.Listing.{
-  windowLines,
-  seatLines,
-  moveLines,
-  bookLines,
-  resultLines,
-  listingText,
-  refusalLine,
-  listingMax,
-  refusalMax,
-  Printed,
-};
+ghost use Rattle.fairness.specs.Exchange.{Move};
+ghost use Rattle.model.specs.Marks.{moveBytes};
+ghost use Rattle.dayfile.specs.Bounds.{Fit};
+ghost use Rattle.dayfile.specs.Memory.{dayBook};
+ghost use Rattle.marker.specs.Marking.{resultIn};
+ghost use Rattle.marker.specs.Wastes.{cellsIn};
+ghost use Rattle.listing.specs.Listing.{listingText, listingOf, refusalLine, listingMax, refusalMax, Printed};
+ghost use Rattle.listing.specs.Calls.{Listed, Lists};
+use dayfile::Book;
+use dayfile::Day;
+use dayfile::Written;
+use marker::Numbers;
+use marker::lines::MOVES_ROOM;
+use sums::Sums;
+use sums::sums_of;
 
 // A buffer of this length takes every listing.
 pub const LISTING_MAX: usize = 3453;
@@ -25,123 +30,18 @@ pub const LISTING_MAX: usize = 3453;
 // A buffer of this length takes every refusal.
 pub const REFUSAL_MAX: usize = 53;
 
-// A line for each window.
-fn put_window_lines(
-    out: &mut [u8],
-    at: usize,
-    windows: usize,
-    supplies: [u16; 24],
-    placed: [u32; 24],
-) -> usize
-    requires { ⌜ windows ≤ 24 ⌝ }
-    requires { ⌜ Room (now out) at (windowLines windows supplies placed) ⌝ }
-    ensures { λ r. ⌜ Stored (now (out .entry)) at (windowLines windows supplies placed) (now (out .exit)) r ⌝ }
-{
-    let mut next = at;
-    for j in 0..windows {
-        next = line::put_window_line(out, next, j, supplies[j], placed[j]);
-    }
-    next
-}
-
-// A line for each seat.
-fn put_seat_lines(
-    out: &mut [u8],
-    at: usize,
-    seats: usize,
-    classes: [u16; 32],
-    totals: [u32; 32],
-) -> usize
-    requires { ⌜ seats ≤ 32 ⌝ }
-    requires { ⌜ Room (now out) at (seatLines seats classes totals) ⌝ }
-    ensures { λ r. ⌜ Stored (now (out .entry)) at (seatLines seats classes totals) (now (out .exit)) r ⌝ }
-{
-    let mut next = at;
-    for i in 0..seats {
-        next = line::put_seat_line(out, next, i, classes[i], totals[i]);
-    }
-    next
-}
-
-// A line for each move. Moves come as the marker writes them: three bytes each, window, giver, taker.
-fn put_move_lines(out: &mut [u8], at: usize, moves: &[u8], count: usize) -> usize
-    requires { ⌜ count * 3 ≤ length (now moves) ⌝ }
-    requires { ⌜ Room (now out) at (moveLines count (now moves)) ⌝ }
-    ensures { λ r. ⌜ Stored (now (out .entry)) at (moveLines count (now (moves .entry))) (now (out .exit)) r ⌝ }
-{
-    let mut next = at;
-    for k in 0..count {
-        next = line::put_move_line(out, next, moves[k * 3], moves[k * 3 + 1], moves[k * 3 + 2]);
-    }
-    next
-}
-
-// The first line, the windows and the seats.
-fn put_book_lines(
-    out: &mut [u8],
-    at: usize,
-    seats: usize,
-    windows: usize,
-    classes: [u16; 32],
-    supplies: [u16; 24],
-    placed: [u32; 24],
-    totals: [u32; 32],
-) -> usize
-    requires { ⌜ (seats ≤ 32) × (windows ≤ 24) ⌝ }
-    requires { ⌜ Room (now out) at (bookLines seats windows classes supplies placed totals) ⌝ }
-    ensures { λ r. ⌜ Stored (now (out .entry)) at (bookLines seats windows classes supplies placed totals) (now (out .exit)) r ⌝ }
-{
-    let mut next = line::put_head_line(out, at, seats, windows);
-    next = put_window_lines(out, next, windows, supplies, placed);
-    put_seat_lines(out, next, seats, classes, totals)
-}
-
-// The mark, and what belongs to it: a window and a seat, or moves.
-fn put_result_lines(
-    out: &mut [u8],
-    at: usize,
-    mark: u8,
-    window: usize,
-    seat: usize,
-    moves: &[u8],
-    count: usize,
-) -> usize
-    requires { ⌜ count * 3 ≤ length (now moves) ⌝ }
-    requires { ⌜ Room (now out) at (resultLines mark window seat (now moves) count) ⌝ }
-    ensures { λ r. ⌜ Stored (now (out .entry)) at (resultLines mark window seat (now (moves .entry)) count) (now (out .exit)) r ⌝ }
-{
-    let next = part::put_last_field(out, at, b"mark ", mark as usize);
-    if mark == 1 {
-        return line::put_left_line(out, next, window, seat);
-    }
-    put_move_lines(out, next, moves, count)
-}
-
-// A whole listing at the buffer's front; returns its length. Each window's placed credits and each seat's total are given. Window and
-// seat are those of mark 1, and the moves, three bytes each, those of marks 2 and 3.
-pub fn put_listing(
-    out: &mut [u8],
-    seats: usize,
-    windows: usize,
-    classes: [u16; 32],
-    supplies: [u16; 24],
-    placed: [u32; 24],
-    totals: [u32; 32],
-    mark: u8,
-    window: usize,
-    seat: usize,
-    moves: &[u8],
-    count: usize,
-) -> usize
+// A whole listing at the buffer's front; returns its length. The moves of marks 2 and 3 come as the marker writes them.
+pub fn put_listing(out: &mut [u8], book: Book, sums: Sums, result: Numbers, moves: &[u8]) -> usize
     requires { ⌜ listingMax ≤ length (now out) ⌝ }
-    requires { ⌜ (seats ≤ 32) × (windows ≤ 24) ⌝ }
-    requires { ⌜ (count ≤ 31) × (count * 3 ≤ length (now moves)) ⌝ }
+    requires { ⌜ (book .seats ≤ 32) × (book .windows ≤ 24) ⌝ }
+    requires { ⌜ (result .moves ≤ 31) × (result .moves * 3 ≤ length (now moves)) ⌝ }
     ensures { λ r. ⌜ Printed (now (out .entry))
-        (listingText seats windows classes supplies placed totals mark window seat (now (moves .entry)) count)
+        (listingText (book .seats) (book .windows) (book .classes) (book .supplies) (sums .placed) (sums .totals)
+        (resultIn result) (now (moves .entry)))
         (now (out .exit)) r ⌝ }
 {
-    let next = put_book_lines(out, 0, seats, windows, classes, supplies, placed, totals);
-    put_result_lines(out, next, mark, window, seat, moves, count)
+    let next = lines::put_book_lines(out, 0, book, sums);
+    lines::put_result_lines(out, next, result, moves)
 }
 
 // A refusal at the buffer's front; returns its length.
@@ -151,4 +51,50 @@ pub fn put_refusal(out: &mut [u8], number: usize, offset: usize) -> usize
 {
     let next = part::put_field(out, 0, b"refused ", number);
     part::put_last_field(out, next, b" at ", offset)
+}
+
+// The listing of a day with a sheet, whatever the mark and the moves are.
+fn put_day(out: &mut [u8], day: Day, result: Numbers, moves: &[u8]) -> usize
+    requires { ⌜ Fit (dayBook day) × (listingMax ≤ length (now out)) ⌝ }
+    requires { ⌜ (result .moves ≤ 31) × (result .moves * 3 ≤ length (now moves)) ⌝ }
+    ensures { λ r. ⌜ ((ms : List Move) (rest : List ℕ) → now (moves .entry) ≡ moveBytes ms ++ rest → result .moves ≡ length ms →
+        Printed (now (out .entry)) (listingOf (dayBook day) (cellsIn (day .book) (day .sheet)) (resultIn result) ms)
+        (now (out .exit)) r) ⌝ }
+{
+    let book = day.book;
+    let sheet = day.sheet;
+    let sums = sums_of(sheet, book.seats, book.windows);
+    put_listing(out, book, sums, result, moves)
+}
+
+// The text of a file: a refusal's line, or the listing of its sheet and mark.
+fn put_text(file: &[u8], out: &mut [u8]) -> usize
+    requires { ⌜ listingMax ≤ length (now out) ⌝ }
+    ensures { λ r. ⌜ Listed (now (file .entry)) (now (out .entry)) (now (out .exit)) r ⌝ }
+{
+    let reading = reader::read(file);
+    let mut moves = [0u8; MOVES_ROOM];
+    let marking = marker::mark_reading(file, reading, &mut moves);
+    let result = marking.numbers();
+    if result.mark == 0 {
+        return put_refusal(out, result.refusal as usize, result.offset);
+    }
+    let day = reading.day;
+    put_day(out, day, result, &moves)
+}
+
+// The text that the program `mark` prints of a file, at the front of the buffer. A refusal of the file is a text as well: only a buffer
+// that could be too short for some listing is refused.
+pub fn listing(file: &[u8], out: &mut [u8]) -> Written
+    ensures { λ r. ⌜ Lists (now (file .entry)) (now (out .entry)) (now (out .exit)) r ⌝ }
+{
+    if out.len() < LISTING_MAX {
+        return Written::Refused {
+            number: 16,
+            at: LISTING_MAX,
+        };
+    }
+    Written::Whole {
+        length: put_text(file, out),
+    }
 }

@@ -3,7 +3,7 @@ use crate::part::put_field;
 use crate::part::put_last_field;
 use crate::part::put_opens;
 ghost use Prim.Native.Nat.{_<_};
-ghost use Rattle.text.specs.Text.{Room, Stored};
+ghost use Rattle.lists.specs.Buffers.{Room, Stored};
 ghost use Rattle.listing.specs.Listing.{headLine, windowLine, seatLine, leftLine, moveLine};
 
 // How many seats and windows there are.

@@ -1,6 +1,6 @@
 // The parts of a line.
 ghost use Prim.Native.Nat.{_<_};
-ghost use Rattle.text.specs.Text.{Room, Stored};
+ghost use Rattle.lists.specs.Buffers.{Room, Stored};
 ghost use Rattle.listing.specs.Listing.{labelled, labelledLast, opens};
 
 // A label and a number.

@@ -118,13 +118,19 @@ module _ (f : List ℕ) where
                 (rw (sheet-cell i j li lj, cap-cell i j li lj) at (h .within i j (rw seats-in li) (rw windows-in lj)))
 
   module _ (none-holds-here : NoneHolds (markerLines f)) where
-    has-sheet : (e : ℕ) × (entryOf f 4 ≡ some e)
+    has-entry : (e : ℕ) × (entryOf f 4 ≡ some e)
     unfolding markerLines line13
-    has-sheet = some-of (entryOf f 4) (none-holds-here .0)
+    has-entry = some-of (entryOf f 4) (none-holds-here .0)
+
+    pub has-sheet-of : (s : Grid) × (sheetOf f ≡ some s)
+    unfolding sheetOf
+    has-sheet-of =
+        let e = has-entry .0 in
+        (gridAt f (start f e) (seatsIn f) (windowsIn f), rw (has-entry .1) refl)
 
     pub accepted-sheet : SheetOf (bookOf f) (sheetIn f)
-    accepted-sheet = entry-sheet (has-sheet .0) (has-sheet .1)
+    accepted-sheet = entry-sheet (has-entry .0) (has-entry .1)
 
     pub accepted-lawful : Lawful (bookOf f) (sheetIn f)
     unfolding markerLines
-    accepted-lawful = lines-lawful (has-sheet .0) (has-sheet .1) (none-holds-here .1 .0) (none-holds-here .1 .1 .0)
+    accepted-lawful = lines-lawful (has-entry .0) (has-entry .1) (none-holds-here .1 .0) (none-holds-here .1 .1 .0)

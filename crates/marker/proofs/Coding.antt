@@ -1,80 +1,71 @@
--- A loop that writes the moves of a route, three bytes each. Assumes nothing.
-use mathlib.Core.Path.{_≡_, refl, ap, ap₂, sym, _∙_}
+-- A loop that writes the moves of an exchange path, three bytes each. Assumes nothing.
+use mathlib.Core.Path.{_≡_, refl, ap}
 use mathlib.Core.List.{List, [], _∷_, _++_, map}
-use Prim.Native.Nat.{ℕ, zero, suc, _+_, _*_, _≤_, _<_}
+use Prim.Native.Nat.{ℕ, _+_, _*_, _≤_, _<_}
 use native.Mathlib.Numerals.{add-one}
 use native.Mathlib.Omega.{arith}
-use lib.ListN.{length, take, drop, getD, set, length-map, length-take}
-use lib.Seq.{sets, sets-eq, take-suc, take-at, drop-at, drop-drop, length-take-le}
-use Rattle.fairness.specs.Exchange as fairness
+use lib.ListN.{length, take, getD, set, length-map, length-take}
+use lib.Seq.{take-suc}
+use Rattle.lists.specs.Buffers.{Stored}
+use Rattle.lists.proofs.Alls.{taken-all-at}
+use Rattle.lists.proofs.Buffers.{stored-none, stored-byte, stored-as, stored-front}
 use Rattle.dayfile.specs.Memory.{front}
 use Rattle.sheet.specs.declared.Move.{Move}
 use Rattle.sheet.specs.Sheets.{moveOf}
-use Rattle.exchange.specs.declared.Route.{Route}
+use Rattle.exchange.specs.declared.ExchangePath.{ExchangePath}
+use Rattle.exchange.specs.Paths.{InByte, Writable, movesOf}
 use Rattle.model.specs.Marks.{moveBytes}
 use Rattle.model.proofs.Moves.{move-bytes-length}
-use Rattle.marker.specs.Steps.{InByte, Writable}
-
--- ---- bytes of lists of moves
 
 -- the bytes of the first i moves of an array
 abbrev pub coded : ℕ → List Move → List ℕ
 coded i ms = moveBytes (map moveOf (take i ms))
 
 bytes-append : (xs : List Move) (m : Move) →
-    moveBytes (map moveOf (xs ++ (m ∷ []))) ≡ moveBytes (map moveOf xs) ++ ((m .window + 1) ∷ (m .giver + 1) ∷ (m .taker + 1) ∷ [])
+    moveBytes (map moveOf (xs ++ (m ∷ []))) ≡
+    moveBytes (map moveOf xs) ++ ((m .window + 1) ∷ []) ++ ((m .giver + 1) ∷ []) ++ ((m .taker + 1) ∷ [])
 unfolding moveBytes
 bytes-append [] m = refl
 bytes-append (x ∷ xs) m =
     ap (λ (l : List ℕ). (x .window + 1) ∷ (x .giver + 1) ∷ (x .taker + 1) ∷ l) (bytes-append xs m)
 
-length-coded : (i : ℕ) (ms : List Move) → i ≤ length ms → length (coded i ms) ≡ 3 * i
-length-coded i ms l =
-    move-bytes-length (map moveOf (take i ms)) ∙ ap (λ (n : ℕ). 3 * n) (length-map (take i ms) moveOf ∙ length-take-le i ms l)
+-- ---- no move yet, one move more, and all of them
 
--- ---- no move yet, and one move more
+pub coded-none : (ms : List Move) (b : List ℕ) → Stored b 0 (coded 0 ms) b 0
+unfolding moveBytes
+coded-none ms b = stored-none
 
-pub nothing-yet : (ms : List Move) (b : List ℕ) → b ≡ front (coded 0 ms) b
-unfolding front moveBytes
-nothing-yet ms b = refl
-
-pub one-more : (ms : List Move) (i : ℕ) (d : Move) (b b₀ : List ℕ) → i < length ms → 3 * i + 3 ≤ length b₀ → length b ≡ length b₀ →
-    b ≡ front (coded i ms) b₀ →
-    set (set (set b (3 * i) (getD ms i d .window + 1)) (3 * i + 1) (getD ms i d .giver + 1)) (3 * i + 2) (getD ms i d .taker + 1)
-    ≡ front (coded (i + 1) ms) b₀
-unfolding front
-one-more ms i d b b₀ hi hb hl e =
+pub coded-more : (ms : List Move) (i : ℕ) (d : Move) {b b₀ : List ℕ} → i < length ms → Stored b₀ 0 (coded i ms) b (3 * i) →
+    Stored b₀ 0 (coded (i + 1) ms)
+    (set (set (set b (3 * i) (getD ms i d .window + 1)) (3 * i + 1) (getD ms i d .giver + 1)) (3 * i + 2) (getD ms i d .taker + 1))
+    (3 * (i + 1))
+coded-more ms i d {b} {b₀} l s =
     let m = getD ms i d in
-    let p = coded i ms in
-    let lp : length p ≡ 3 * i = length-coded i ms (omega arith) in
-    let lq : length (coded (i + 1) ms) ≡ 3 * i + 3 = length-coded (i + 1) ms (omega arith) ∙ omega arith in
-    let vs : List ℕ = (m .window + 1) ∷ (m .giver + 1) ∷ (m .taker + 1) ∷ [] in
-    let is : b ≡ p ++ drop (3 * i) b₀ = e ∙ ap (λ (n : ℕ). p ++ drop n b₀) lp in
-    let head : take (3 * i) b ≡ p = ap (take (3 * i)) is ∙ take-at p (drop (3 * i) b₀) (3 * i) lp in
-    let rest : drop (3 * i) b ≡ drop (3 * i) b₀ = ap (drop (3 * i)) is ∙ drop-at p (drop (3 * i) b₀) (3 * i) lp in
-    let back : drop (3 * i + 3) b ≡ drop (3 * i + 3) b₀ =
-    sym (drop-drop 3 (3 * i) b) ∙ ap (drop 3) rest ∙ drop-drop 3 (3 * i) b₀ in
-    let stored : sets b (3 * i) vs ≡ take (3 * i) b ++ vs ++ drop (3 * i + 3) b = sets-eq vs b (3 * i) (omega arith) in
-    let grown : coded (i + 1) ms ≡ p ++ vs = rw (add-one i, take-suc ms i d hi) (bytes-append (take i ms) m) in
-    let n₁ : 3 * i + 1 ≡ suc (3 * i) = omega arith in
-    let n₂ : 3 * i + 2 ≡ suc (suc (3 * i)) = omega arith in
-    rw (n₁, n₂, lq, grown) (stored ∙ ap₂ (λ (f r : List ℕ). f ++ vs ++ r) head back)
+    let three = stored-byte (m .taker + 1) (stored-byte (m .giver + 1) (stored-byte (m .window + 1) s)) in
+    let grown : coded (i + 1) ms ≡ coded i ms ++ ((m .window + 1) ∷ []) ++ ((m .giver + 1) ∷ []) ++ ((m .taker + 1) ∷ []) =
+    rw (add-one i, take-suc ms i d l) (bytes-append (take i ms) m) in
+    let place : 3 * i + 1 + 1 ≡ 3 * i + 2 = omega arith in
+    let end : 3 * i + 1 + 1 + 1 ≡ 3 * (i + 1) = omega arith in
+    rw (grown, ← place, ← end) three
 
--- ---- a route that can be written
+-- ---- a path that can be written
 
-all-at : (ms : List Move) (i n : ℕ) (d : Move) → i < n → i < length ms → fairness.All InByte (map moveOf (take n ms)) →
-    InByte (moveOf (getD ms i d))
-all-at [] i n d l h a = absurd (omega arith)
-all-at (m ∷ ms) i zero d l h a = absurd (omega arith)
-all-at (m ∷ ms) zero (suc n) d l h a = a .0
-all-at (m ∷ ms) (suc i) (suc n) d l h a = all-at ms i n d (omega arith) (omega arith) (a .1)
+module _ (path : ExchangePath) (w : Writable path) where
+  inside : path .count ≤ length (path .moves)
+  inside =
+      let e = length-map (take (path .count) (path .moves)) moveOf in
+      omega (arith, w .counted, e, length-take (path .count) (path .moves))
 
-module _ (route : Route) (w : Writable route) where
-  pub inside : (i : ℕ) → i < route .count → i < length (route .moves)
-  inside i l =
-      let e = length-map (take (route .count) (route .moves)) moveOf in
-      let n = length-take (route .count) (route .moves) in
-      omega (arith, w .counted, e, n)
+  pub move-inside : (i : ℕ) → i < path .count → i < length (path .moves)
+  move-inside i l = omega (arith, inside)
 
-  pub byte-at : (i : ℕ) (d : Move) → i < route .count → InByte (moveOf (getD (route .moves) i d))
-  byte-at i d l = all-at (route .moves) i (route .count) d l (inside i l) (w .small)
+  pub byte-at : (i : ℕ) (d : Move) → i < path .count → InByte (moveOf (getD (path .moves) i d))
+  byte-at i d l = taken-all-at moveOf (path .moves) (path .count) InByte i d (w .small) l inside
+
+  pub coded-all : {b b₀ : List ℕ} (i : ℕ) → path .count ≤ i → i ≤ path .count → 3 * path .count ≤ length b₀ →
+      Stored b₀ 0 (coded i (path .moves)) b (3 * i) → b ≡ front (moveBytes (movesOf path)) b₀
+  unfolding front
+  coded-all {b} {b₀} i g l long s =
+      let e : i ≡ path .count = omega arith in
+      let whole : Stored b₀ 0 (moveBytes (movesOf path)) b (3 * i) = stored-as (ap (λ (n : ℕ). coded n (path .moves)) e) s in
+      stored-front whole (omega (arith, move-bytes-length (movesOf path), w .counted))

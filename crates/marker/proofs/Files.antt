@@ -1,17 +1,23 @@
--- From the checks of a file to the marker's contract. Assumes nothing.
-use mathlib.Core.Path.{_≡_, refl}
-use mathlib.Core.List.{List, _++_}
-use mathlib.Core.Option.{none, some}
+-- From what was read of a file and its checks to the marker's contract. Assumes nothing.
+use mathlib.Core.Path.{_≡_, refl, sym, ap, _∙_}
+use mathlib.Core.Bool.{Bool, true, false}
+use mathlib.Core.List.{List, []}
+use mathlib.Core.Option.{Option, none, some}
 use Prim.Native.Nat.{ℕ, _≤_}
+use native.Mathlib.Omega.{arith}
 use lib.ListN.{length}
-use borrow.Author.Tests.{ltb-false}
 use lib.Dec.{ltb}
-use Rattle.model.specs.Book.{Grid}
-use Rattle.model.specs.Marks.{markOf}
-use Rattle.dayfile.specs.Layout.{bookOf, sheetOf}
-use Rattle.dayfile.specs.Table.{refuse, firstOf, readLines, markerLines, bufferLines, markLines, line16}
-use Rattle.dayfile.specs.Memory.{Holds, held, heldIf}
+use borrow.Author.Tests.{ltb-false}
+use Rattle.model.specs.Lowest.{getOr}
+use Rattle.model.specs.Book.{Grid, Lawful}
+use Rattle.model.specs.Marks.{markOf, resultOf}
+use Rattle.dayfile.specs.Bounds.{Fit}
+use Rattle.dayfile.specs.Layout.{bookOf}
+use Rattle.dayfile.specs.Table.{refuse, firstOf, readLines, markerLines, sheetLines, bufferLines, markLines, movesRoom, line16}
+use Rattle.dayfile.specs.Memory.{bookIn, sheetIn, dayBook, Reads}
 use Rattle.dayfile.specs.declared.Book as Memory
+use Rattle.dayfile.specs.declared.Reading.{Reading}
+use Rattle.dayfile.proofs.Answers.{defined-refusal, defined-answer}
 use Rattle.dayfile.proofs.Lines.{none-holds, none-parts}
 use Rattle.dayfile.proofs.Tests.{when-none}
 use Rattle.dayfile.proofs.Sound.{sound}
@@ -20,51 +26,75 @@ use Rattle.sheet.specs.declared.Sheet.{Sheet}
 use Rattle.sheet.specs.Sheets.{gridOf}
 use Rattle.marker.specs.declared.Marking.{Marking}
 use Rattle.marker.specs.declared.Marking.the-variants.{Refused}
-use Rattle.marker.specs.Marking.{sheetIn, markFile, Marks}
-use Rattle.marker.specs.Steps.{MarkedAs, Kept, KeepsLawful}
-use Rattle.marker.proofs.Accepted.{accepted-lawful}
+use Rattle.marker.specs.Marking as marking
+use Rattle.marker.specs.Marking.{Marks}
+use Rattle.marker.specs.Wastes.{cellsIn}
+use Rattle.marker.specs.Steps.{MarkedAs, Markable}
+use Rattle.marker.proofs.Accepted.{accepted-lawful, has-sheet-of}
+use Rattle.dayfile.proofs.Readings.{read-day}
 
-module _ (f before : List ℕ) where
-  -- a refusal
-  pub refused-marks : (n p : ℕ) → firstOf (markLines f (length before)) ≡ some (refuse n p) → Marks f before before (Refused n p)
-  unfolding markFile
-  refused-marks n p e = record { says = rw e refl; buffer = rw e refl }
+-- the sheet that is in memory, where there is one
+cells-of : (m : Memory.Book) (there : Bool) (sheet : Sheet) (s : Grid) → sheetIn m there (gridOf sheet) ≡ some s → cellsIn m sheet ≡ s
+cells-of m true sheet s e = ap (λ (o : Option Grid). getOr o []) e
+cells-of m false sheet s e = absurd (let z : _≡_ {A = ℕ} 0 1 = cc in omega arith)
 
-  module _ (passed : firstOf (markLines f (length before)) ≡ none) where
-    -- the three groups of lines
-    read-passed : firstOf (readLines f) ≡ none
-    unfolding markLines
-    read-passed = none-parts (readLines f) (markerLines f ++ bufferLines (length before) 93) passed .0
+-- what was read of a file with a lawful sheet: its book and its sheet
+module _ (f : List ℕ) (r : Reading) (reads : Reads f r) (passed : firstOf (sheetLines f) ≡ none) where
+  sheet-parts : (firstOf (readLines f) ≡ none) × (firstOf (markerLines f) ≡ none)
+  unfolding sheetLines
+  sheet-parts = none-parts (readLines f) (markerLines f) passed
 
-    rest-passed : firstOf (markerLines f ++ bufferLines (length before) 93) ≡ none
-    unfolding markLines
-    rest-passed = none-parts (readLines f) (markerLines f ++ bufferLines (length before) 93) passed .1
+  pub book-read : dayBook (r .day) ≡ bookOf f
+  book-read = read-day f r reads (sheet-parts .0) .0
 
-    pub has-room : 93 ≤ length before
-    unfolding bufferLines line16
-    has-room =
-        let e = none-holds (bufferLines (length before) 93) (none-parts (markerLines f) (bufferLines (length before) 93) rest-passed .1) in
-        ltb-false (length before) 93 (when-none (ltb (length before) 93) 93 (e .0))
+  pub fit-read : Fit (bookOf f)
+  fit-read = fits f (sound f (sheet-parts .0))
 
-    -- what the file holds, in memory
-    module _ (m : Memory.Book) (caps : Grid) (sheet : Sheet) (holds : Holds (bookOf f) m) (caps-are : caps ≡ held (bookOf f .caps))
-        (cells-are : gridOf sheet ≡ heldIf (sheetOf f)) where
-      pub kept : Kept (bookOf f) (sheetIn f) m caps sheet
-      kept = record { holds = holds; caps-are = caps-are; cells-are = cells-are }
+  pub sheet-read : cellsIn (r .day .book) (r .day .sheet) ≡ marking.sheetIn f
+  sheet-read =
+      let s = has-sheet-of f (none-holds (markerLines f) (sheet-parts .1)) in
+      cells-of (r .day .book) (r .day .«has_sheet») (r .day .sheet) (s .0) (read-day f r reads (sheet-parts .0) .1 ∙ s .1)
+      ∙ ap (λ (o : Option Grid). getOr o []) (sym (s .1))
 
-      pub keeps-lawful : KeepsLawful m caps sheet
-      keeps-lawful =
-          let lines = none-parts (markerLines f) (bufferLines (length before) 93) rest-passed .0 in
-          record {
-            book = bookOf f;
-            grid = sheetIn f;
-            fit = fits f (sound f read-passed);
-            lawful = accepted-lawful f (none-holds (markerLines f) lines);
-            kept = kept;
-          }
+  pub lawful-read : Lawful (bookOf f) (marking.sheetIn f)
+  lawful-read = accepted-lawful f (none-holds (markerLines f) (sheet-parts .1))
 
-    -- a mark
-    pub marked-marks : (after : List ℕ) (r : Marking) → MarkedAs (bookOf f) (sheetIn f) (markOf (bookOf f) (sheetIn f)) before after r →
-        Marks f before after r
-    unfolding markFile
-    marked-marks after r h = record { says = rw passed (h .says); buffer = rw passed (h .buffer) }
+-- a refusal
+pub refused-marks : (f before : List ℕ) (n p : ℕ) → firstOf (markLines f (length before)) ≡ some (refuse n p) →
+    Marks f before before (Refused n p)
+refused-marks f before n p e = defined-refusal (refuse n p) e refl refl
+
+-- no line holds
+module _ (f before : List ℕ) (passed : firstOf (markLines f (length before)) ≡ none) where
+  parts : (firstOf (sheetLines f) ≡ none) × (firstOf (bufferLines (length before) movesRoom) ≡ none)
+  unfolding markLines
+  parts = none-parts (sheetLines f) (bufferLines (length before) movesRoom) passed
+
+  pub has-room : movesRoom ≤ length before
+  unfolding bufferLines line16
+  has-room =
+      let e = none-holds (bufferLines (length before) movesRoom) (parts .1) in
+      ltb-false (length before) movesRoom (when-none (ltb (length before) movesRoom) movesRoom (e .0))
+
+  module _ (r : Reading) (reads : Reads f r) (caps : Grid) (caps-are : caps ≡ gridOf (r .day .caps)) where
+    book-is : bookIn (r .day .book) caps ≡ bookOf f
+    book-is = ap (bookIn (r .day .book)) caps-are ∙ book-read f r reads (parts .0)
+
+    sheet-is : cellsIn (r .day .book) (r .day .sheet) ≡ marking.sheetIn f
+    sheet-is = sheet-read f r reads (parts .0)
+
+    pub markable : Markable (r .day .book) caps (r .day .sheet)
+    markable =
+        record {
+          fit = rw book-is (fit-read f r reads (parts .0));
+          lawful = rw (book-is, sheet-is) (lawful-read f r reads (parts .0));
+        }
+
+    -- the mark
+    pub marked-marks : (after : List ℕ) (x : Marking) →
+        MarkedAs (bookIn (r .day .book) caps) (cellsIn (r .day .book) (r .day .sheet))
+        (markOf (bookIn (r .day .book) caps) (cellsIn (r .day .book) (r .day .sheet))) before after x →
+        Marks f before after x
+    marked-marks after x h =
+        let m : MarkedAs (bookOf f) (marking.sheetIn f) (markOf (bookOf f) (marking.sheetIn f)) before after x = rw (book-is, sheet-is) at h in
+        defined-answer (resultOf (markOf (bookOf f) (marking.sheetIn f))) passed (m .says) (refl, m .buffer)

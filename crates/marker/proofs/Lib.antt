@@ -1,11 +1,14 @@
 -- The laws that the functions' proofs cite.
-pub mod Accepted
+pub mod Sheets
+pub mod Used
+pub mod Wasting
 pub mod Coding
-pub mod Seeking
 pub mod Fair
 pub mod Memory
+pub mod Accepted
 pub mod Files
--- demands 1 and 3
+-- for callers: what an answer's numbers tell, and demand 3
+pub mod Telling
 pub mod Taken
 pub mod Decode
 pub mod Theorems

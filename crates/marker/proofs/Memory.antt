@@ -1,77 +1,53 @@
--- A book and a sheet in memory: what the search for waste and the search for exchanges ask of them. Assumes nothing.
-use mathlib.Core.Path.{_≡_, refl, sym, ap, subst, _∙_}
+-- A book and a lawful sheet in memory: what the search for waste and the search for exchange paths ask of them. Assumes nothing.
+use mathlib.Core.Path.{_≡_, refl, subst}
 use mathlib.Core.List.{List}
-use Prim.Native.Nat.{ℕ, _+_, _<_}
+use Prim.Native.Nat.{ℕ, _+_, _≤_, _<_}
 use native.Mathlib.Omega.{arith}
-use lib.ListN.{getD}
-use Rattle.model.specs.Book.{Book, Grid, cell, seats, windows, instanceOf}
+use Rattle.fairness.specs.Instance.{Feasible}
+use Rattle.model.specs.Book.{Book, Grid, cell, instanceOf}
 use Rattle.model.specs.Marks.{wasteful, seatBelow, wastedWindow, markOf}
 use Rattle.model.proofs.Lowest.{lowest-some}
+use Rattle.dayfile.specs.Memory.{bookIn}
 use Rattle.dayfile.specs.declared.Book as Memory
-use Rattle.dayfile.proofs.Tables.{sized-at}
+use Rattle.dayfile.proofs.Held.{seats-in, windows-in}
 use Rattle.sheet.specs.declared.Sheet.{Sheet}
 use Rattle.sheet.specs.Sheets.{credit}
-use Rattle.sheet.proofs.Cells.{credit-cell}
-use Rattle.terms.specs.declared.Terms.{Terms}
-use Rattle.terms.specs.Terms.{Told, Shows, Counted}
-use Rattle.waste.specs.Wastes.{InMemory, Tells}
-use Rattle.waste.specs.declared.Waste.{Waste}
-use Rattle.waste.specs.declared.Waste.the-variants.{Nowhere, At}
-use Rattle.bookterms.specs.Books.{HoldsFit}
-use Rattle.bookterms.proofs.Laws.{held-cell, seats-most, windows-most}
+use Rattle.instance.specs.declared.Terms.{Terms}
+use Rattle.instance.specs.Terms.{instanceIn, Told, Shows, Ranged, Small}
+use Rattle.instance.proofs.Told.{small-told, shown-feasible}
+use Rattle.marker.specs.declared.waste.Waste.{Waste}
+use Rattle.marker.specs.declared.waste.Waste.the-variants.{Nowhere, At}
 use Rattle.marker.specs.declared.Marking.{Marking}
 use Rattle.marker.specs.declared.Marking.the-variants.{Wasteful}
-use Rattle.marker.specs.Steps.{fairMark, MarkedAs, Kept, KeepsLawful}
+use Rattle.marker.specs.Wastes.{cellsIn, Tells}
+use Rattle.marker.specs.Steps.{fairMark, MarkedAs, Markable}
+use Rattle.marker.proofs.Used.{cell-in}
 use Rattle.marker.proofs.Fair.{marked-as}
 
-module _ (m : Memory.Book) (caps : Grid) (sheet : Sheet) (lawful : KeepsLawful m caps sheet) where
-  pub holds-fit : HoldsFit m
-  holds-fit = record { book = lawful .book; fit = lawful .fit; holds = lawful .kept .holds }
+module _ (m : Memory.Book) (caps : Grid) (sheet : Sheet) (h : Markable m caps sheet) where
+  pub in-range : (m .seats ≤ 32) × (m .windows ≤ 24)
+  in-range = (omega (arith, seats-in m caps, h .fit .seats-high), omega (arith, windows-in m caps, h .fit .windows-high))
 
-  module _ (b : Book) (s : Grid) (kept : Kept b s m caps sheet) where
-    cell-is : (i j : ℕ) → i < 32 → j < 24 → cell s i j ≡ credit sheet i j
-    cell-is i j li lj =
-        sym (credit-cell sheet i j ∙ ap (λ (g : Grid). cell g i j) (kept .cells-are) ∙ held-cell s i j li lj)
-
-    pub in-memory : InMemory b s (m .seats) (m .windows) sheet caps (m .supplies)
-    in-memory = record {
-      seats-are = sym (kept .holds .seats-are);
-      windows-are = sym (kept .holds .windows-are);
-      cells-are = λ i j li lj. cell-is i j (omega (arith, seats-most m holds-fit)) (omega (arith, windows-most m holds-fit));
-      caps-are = λ i j li lj.
-          sym (ap (λ (g : Grid). cell g i j) (kept .caps-are)
-          ∙ held-cell (b .caps) i j (omega (arith, seats-most m holds-fit)) (omega (arith, windows-most m holds-fit)));
-      supplies-are = λ j lj.
-          sym (ap (λ (xs : List ℕ). getD xs j 0) (kept .holds .supplies-are)
-          ∙ sized-at 24 (b .supplies) j (omega (arith, windows-most m holds-fit)));
-    }
-
-    -- the numbers that tell the book show the sheet
-    pub shows : (t : Terms) → Told (instanceOf b) t caps → Shows t (cell s) sheet
+  -- the numbers that tell the book
+  module _ (t : Terms) (told : Told (instanceOf (bookIn m caps)) t caps) where
+    pub shows : Shows t (cell (cellsIn m sheet)) sheet
     unfolding instanceOf
-    shows t told i j li lj =
-        let n = told .seats-are in
-        let k = told .windows-are in
-        in-memory .cells-are i j (omega (arith, kept .holds .seats-are)) (omega (arith, kept .holds .windows-are))
+    shows i j li lj =
+        cell-in m sheet i j (omega (arith, told .seats-are, seats-in m caps)) (omega (arith, told .windows-are, windows-in m caps))
 
-  -- no used cell is above 4,095
-  pub counted : (t : Terms) → Told (instanceOf (lawful .book)) t caps → Counted t sheet
-  unfolding instanceOf
-  counted t told i j li lj =
-      let n : seats (lawful .book) ≡ t .seats = told .seats-are in
-      let k : windows (lawful .book) ≡ t .windows = told .windows-are in
-      let same = shows (lawful .book) (lawful .grid) (lawful .kept) t told i j li lj in
-      let inside = lawful .lawful .within i j (omega arith) (omega arith) in
-      let high = lawful .fit .cap-high i j (omega arith) (omega arith) in
-      omega (arith, same, inside, high)
+    pub searchable : Ranged t → Small t caps × Feasible (instanceIn t caps) (credit sheet)
+    searchable ranged = (
+      small-told (bookIn m caps) t caps (h .fit) told ranged,
+      shown-feasible t caps (instanceOf (bookIn m caps)) told (cell (cellsIn m sheet)) sheet shows (h .lawful),
+    )
 
   -- a window and a seat that are wasted are small numbers
-  pub wasted-small : (j i : ℕ) → Tells (lawful .book) (lawful .grid) (At j i) → (j < 24) × (i < 32)
+  pub wasted-small : (j i : ℕ) → Tells (bookIn m caps) (cellsIn m sheet) (At j i) → (j < 24) × (i < 32)
   unfolding wastedWindow seatBelow
   wasted-small j i w =
       let window = lowest-some _ _ j (w .0) .below in
       let seat = lowest-some _ _ i (w .1) .below in
-      (omega (arith, window, lawful .fit .windows-high), omega (arith, seat, lawful .fit .seats-high))
+      (omega (arith, window, h .fit .windows-high), omega (arith, seat, h .fit .seats-high))
 
 -- ---- the mark, by what the search for waste answers
 

@@ -1,7 +1,7 @@
 -- An accepted file with a lawful sheet meets no line of the table where the buffer is long enough. Assumes nothing.
 use mathlib.Core.Path.{_≡_, refl, ap, _∙_}
 use mathlib.Core.Bool.{not}
-use mathlib.Core.List.{List, [], _++_}
+use mathlib.Core.List.{List, []}
 use mathlib.Core.Option.{Option, none, some}
 use Prim.Native.Nat.{ℕ, _≤_}
 use native.Mathlib.Omega.{arith}
@@ -9,7 +9,8 @@ use borrow.Author.Tests.{le-ltb}
 use Rattle.model.specs.Lowest.{when, isSome, andThen, getOr}
 use Rattle.model.specs.Book.{Book, Grid, SheetOf, Lawful}
 use Rattle.dayfile.specs.Layout.{bookOf, sheetOf, entryOf, gridAt, start, seatsIn, windowsIn}
-use Rattle.dayfile.specs.Table.{firstOf, line13, line16, readLines, markerLines, bufferLines, markLines}
+use Rattle.dayfile.specs.Table.{firstOf, line13, line16, readLines, markerLines, sheetLines, bufferLines, markLines}
+use Rattle.dayfile.specs.Table.{movesRoom}
 use Rattle.dayfile.specs.Outcome.{answer, readFile, NoneHolds}
 use Rattle.dayfile.proofs.Answers.{answered}
 use Rattle.dayfile.proofs.Lines.{none-holds, none-first-of, on-after}
@@ -49,14 +50,17 @@ module _ (f : List ℕ) (b : Book) (s : Grid) (read : readFile f ≡ answer (b, 
         let lines = lawful-lines f (entry .0) (entry .1) (rw (book-is, sheet-in) lawful) in
         (ap (λ (o : Option ℕ). when (not (isSome o)) 0) (entry .1), (lines .0, (lines .1, tt)))
 
-    buffer-free : (room : ℕ) → 93 ≤ room → NoneHolds (bufferLines room 93)
+    buffer-free : (room : ℕ) → movesRoom ≤ room → NoneHolds (bufferLines room movesRoom)
     unfolding bufferLines line16
-    buffer-free room long = (ap (λ t. when t 93) (le-ltb room 93 long), tt)
+    buffer-free room long = (ap (λ t. when t movesRoom) (le-ltb room movesRoom long), tt)
 
-    pub none-hold : (room : ℕ) → 93 ≤ room → NoneHolds (markLines f room)
+    sheet-free : firstOf (sheetLines f) ≡ none
+    unfolding sheetLines
+    sheet-free = on-after (readLines f) (markerLines f) (says .0) ∙ none-first-of (markerLines f) marker-free
+
+    pub none-hold : (room : ℕ) → movesRoom ≤ room → NoneHolds (markLines f room)
     unfolding markLines
     none-hold room long =
         none-holds (markLines f room)
-        (on-after (readLines f) (markerLines f ++ bufferLines room 93) (says .0)
-        ∙ on-after (markerLines f) (bufferLines room 93) (none-first-of (markerLines f) marker-free)
-        ∙ none-first-of (bufferLines room 93) (buffer-free room long))
+        (on-after (sheetLines f) (bufferLines room movesRoom) sheet-free
+        ∙ none-first-of (bufferLines room movesRoom) (buffer-free room long))

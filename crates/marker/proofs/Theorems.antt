@@ -1,8 +1,8 @@
--- Demands 1 and 3 for the marker, over its contract `Marks` and with the definitions of specs/ alone.
+-- What the marker's contract `Marks` says in other words, and demand 3 for the marker, with the definitions of specs/ alone.
 use mathlib.Core.Path.{_≡_, refl, sym, ap, ap₂, _∙_}
 use mathlib.Core.Bool.{true, true≢false}
 use mathlib.Core.Logic.{inl, inr, ⊎-elim, _↔_}
-use mathlib.Core.List.{List, _++_}
+use mathlib.Core.List.{List}
 use mathlib.Core.Option.{Option, none, some}
 use Prim.Native.Nat.{ℕ}
 use native.Mathlib.Omega.{arith}
@@ -15,11 +15,12 @@ use Rattle.model.specs.Fair.{profileOf, HighestList}
 use Rattle.model.specs.Marks.{Mark, wasteful, improvable, tied, settled, Result, markOf, resultOf, passes}
 use Rattle.model.proofs.Theorems as model
 use Rattle.dayfile.specs.Layout.{bookOf}
-use Rattle.dayfile.specs.Table.{Line, Refusal, refuse, firstOf, markerLines, bufferLines, markLines, readLines}
-use Rattle.dayfile.specs.Outcome.{turnedAway, answer, unless, NoneHolds, FirstHolds}
-use Rattle.dayfile.proofs.Lines.{none-holds, none-parts, none-first-of, first-holds}
+use Rattle.dayfile.specs.Table.{Refusal, firstOf, readLines, markerLines, sheetLines, bufferLines, markLines, movesRoom}
+use Rattle.dayfile.specs.Outcome.{answer, unless, NoneHolds}
+use Rattle.dayfile.proofs.Answers.{defined, tells-refusal, tells-answer}
+use Rattle.dayfile.proofs.Lines.{none-holds, none-parts, none-first-of}
 use Rattle.marker.specs.declared.Marking.{Marking}
-use Rattle.marker.specs.declared.Marking.the-variants.{Refused, Improvable}
+use Rattle.marker.specs.declared.Marking.the-variants.{Improvable}
 use Rattle.marker.specs.Marking.{sheetIn, markFile, told, results, movesIn, BufferAfter, Passing, Marks}
 use Rattle.marker.proofs.Accepted.{accepted-sheet, accepted-lawful}
 use Rattle.marker.proofs.Decode.{moves-in-front}
@@ -35,43 +36,60 @@ passing-marks settled = (λ p. refl, λ e. inr refl)
 same-result : (x y : Result) → answer x ≡ answer y → x ≡ y
 same-result x y e = cc
 
-module _ (file before after : List ℕ) (r : Marking) (marks : Marks file before after r) where
-  lines : List Line
-  lines = markLines file (length before)
+-- the result of a mark, or the refusal
+results-of : (o : Option Refusal) (m : Mark) → results (unless o m) ≡ unless o (resultOf m)
+results-of none m = refl
+results-of (some q) m = refl
 
-  -- ---- demand 1: a defined outcome or a numbered refusal, and a refusal changes no byte
-
-  -- a refusal is that of the first line of the table that holds, and then the buffer is as it was
-  pub refuses : (n p : ℕ) → r ≡ Refused n p → FirstHolds (markLines file (length before)) (refuse n p) × (after ≡ before)
-  unfolding markFile lines
-  refuses n p e = go (firstOf lines) refl (ap told (sym e) ∙ marks .says) (marks .buffer)
+module _ (file before after : List ℕ) (r : Marking) where
+  -- the contract in one line: the marker says what the rules say of the file
+  pub marks-says : Marks file before after r → told r ≡ results (markFile file (length before))
+  unfolding markFile
+  marks-says marks = go (firstOf (markLines file (length before))) refl
     where
-      go : (o : Option Refusal) → firstOf lines ≡ o →
-          turnedAway (refuse n p) ≡ results (unless o (markOf (bookOf file) (sheetIn file))) →
-          BufferAfter (bookOf file) (sheetIn file) (unless o (markOf (bookOf file) (sheetIn file))) before after →
-          FirstHolds lines (refuse n p) × (after ≡ before)
-      go (some q) h same buffer =
-          let q-is : q ≡ refuse n p = cc in
-          (first-holds lines (refuse n p) (h ∙ ap some q-is), buffer)
-      go none h same buffer = absurd (let z : _≡_ {A = ℕ} 0 1 = cc in omega arith)
+      go : (o : Option Refusal) → firstOf (markLines file (length before)) ≡ o →
+          told r ≡ results (unless o (markOf (bookOf file) (sheetIn file)))
+      go (some q) e = tells-refusal marks q e .0
+      go none e = let x = tells-answer marks e in x .1 .0 ∙ ap answer (x .1 .1 .0)
 
+  pub marks-buffer : Marks file before after r → BufferAfter (bookOf file) (sheetIn file) (markFile file (length before)) before after
+  unfolding markFile
+  marks-buffer marks = go (firstOf (markLines file (length before))) refl
+    where
+      go : (o : Option Refusal) → firstOf (markLines file (length before)) ≡ o →
+          BufferAfter (bookOf file) (sheetIn file) (unless o (markOf (bookOf file) (sheetIn file))) before after
+      go (some q) e = tells-refusal marks q e .1
+      go none e = tells-answer marks e .1 .1 .1
+
+  -- and back
+  pub says-marks : told r ≡ results (markFile file (length before)) →
+      BufferAfter (bookOf file) (sheetIn file) (markFile file (length before)) before after → Marks file before after r
+  unfolding markFile
+  says-marks says buffer =
+      defined (resultOf (markOf (bookOf file) (sheetIn file)))
+      (says ∙ results-of (firstOf (markLines file (length before))) (markOf (bookOf file) (sheetIn file)))
+      (λ q e. rw e at buffer) (λ e. (refl, rw e at buffer))
+
+module _ (file before after : List ℕ) (r : Marking) (marks : Marks file before after r) where
   module _ (none-hold : NoneHolds (markLines file (length before))) where
-    marked : markFile file (length before) ≡ answer (markOf (bookOf file) (sheetIn file))
-    unfolding markFile
-    marked = rw (none-first-of (markLines file (length before)) none-hold) refl
+    passed : firstOf (markLines file (length before)) ≡ none
+    passed = none-first-of (markLines file (length before)) none-hold
+
+    right : (x : Result) × ((told r ≡ answer x) × ((x ≡ resultOf (markOf (bookOf file) (sheetIn file)))
+        × BufferAfter (bookOf file) (sheetIn file) (answer (markOf (bookOf file) (sheetIn file))) before after))
+    right = marks .gives none-hold
 
     -- where no line holds the answer is the mark that the rules give
     pub answers : told r ≡ answer (resultOf (markOf (bookOf file) (sheetIn file)))
-    answers = marks .says ∙ ap results marked
+    answers = right .1 .0 ∙ ap answer (right .1 .1 .0)
 
     -- ---- demand 3, where no line holds: the sheet is lawful and the buffer long enough
 
     marker-lines : NoneHolds (markerLines file)
-    unfolding markLines
+    unfolding markLines sheetLines
     marker-lines =
-        let rest = none-parts (readLines file) (markerLines file ++ bufferLines (length before) 93)
-        (none-first-of (markLines file (length before)) none-hold) .1 in
-        none-holds (markerLines file) (none-parts (markerLines file) (bufferLines (length before) 93) rest .0)
+        let free = none-parts (sheetLines file) (bufferLines (length before) movesRoom) passed .0 in
+        none-holds (markerLines file) (none-parts (readLines file) (markerLines file) free .1)
 
     pub a-sheet : SheetOf (bookOf file) (sheetIn file)
     a-sheet = accepted-sheet file marker-lines
@@ -96,7 +114,7 @@ module _ (file before after : List ℕ) (r : Marking) (marks : Marks file before
         (profile (instanceOf (bookOf file)) (playAll (cell (sheetIn file)) (movesIn n after)))
     path-plays n e =
         go (markOf (bookOf file) (sheetIn file)) refl (ap told (sym e) ∙ answers)
-        (rw marked at (marks .buffer))
+        (right .1 .1 .1)
       where
         go : (m : Mark) → markOf (bookOf file) (sheetIn file) ≡ m →
             answer (record { mark = 2; window = 0; seat = 0; moves = n }) ≡ answer (resultOf m) →

@@ -11,8 +11,9 @@ use Rattle.model.specs.Search.{Found, PathOn}
 use Rattle.model.specs.Marks.{Mark, wasteful, improvable, tied, settled, Result, markOf, resultOf, moveBytes}
 use Rattle.dayfile.specs.Layout.{bookOf, sheetOf}
 use Rattle.dayfile.specs.Table.{refuse, markLines}
-use Rattle.dayfile.specs.Outcome.{Outcome, turnedAway, answer, outcome}
+use Rattle.dayfile.specs.Outcome.{Outcome, turnedAway, answer, outcome, Defined}
 use Rattle.dayfile.specs.Memory.{front}
+use Rattle.marker.specs.declared.Numbers.{Numbers}
 use Rattle.marker.specs.declared.Marking.{Marking}
 use Rattle.marker.specs.declared.Marking.the-variants.{Refused, Wasteful, Improvable, Tied, Settled}
 
@@ -32,6 +33,15 @@ told (Wasteful window seat) = answer (record { mark = 1; window = window; seat =
 told (Improvable moves) = answer (record { mark = 2; window = 0; seat = 0; moves = moves })
 told (Tied moves) = answer (record { mark = 3; window = 0; seat = 0; moves = moves })
 told Settled = answer (record { mark = 4; window = 0; seat = 0; moves = 0 })
+
+-- the same in memory: of a refusal its number and its offset; what an answer does not use is 0
+abbrev pub numbersOf : Outcome Result → Numbers
+numbersOf (turnedAway q) = record { refusal = q .number; offset = q .at; mark = 0; window = 0; seat = 0; moves = 0 }
+numbersOf (answer x) =
+    record { refusal = 0; offset = 0; mark = x .mark; window = x .window; seat = x .seat; moves = x .moves }
+
+abbrev pub resultIn : Numbers → Result
+resultIn n = record { mark = n .mark; window = n .window; seat = n .seat; moves = n .moves }
 
 abbrev pub results : Outcome Mark → Outcome Result
 results (turnedAway q) = turnedAway q
@@ -61,10 +71,12 @@ BufferAfter b s (answer (improvable f)) before after = PathWritten b s f before 
 BufferAfter b s (answer (tied f)) before after = PathWritten b s f before after
 BufferAfter b s (answer settled) before after = after ≡ before
 
--- the marker's contract
-pub record Marks (file before after : List ℕ) (r : Marking) : Type 0 where
-  pub says : told r ≡ results (markFile file (length before))
-  pub buffer : BufferAfter (bookOf file) (sheetIn file) (markFile file (length before)) before after
+-- the marker's contract: down its lines, the result of the mark that the rules give, and the buffer holds what goes with that mark
+abbrev pub Marks : (file before after : List ℕ) → Marking → Type 0
+Marks file before after r =
+    Defined (markLines file (length before)) before after (told r)
+    (λ x. (x ≡ resultOf (markOf (bookOf file) (sheetIn file)))
+    × BufferAfter (bookOf file) (sheetIn file) (answer (markOf (bookOf file) (sheetIn file))) before after)
 
 -- the sheet passes: the answer is mark 3 or 4
 abbrev pub Passing : Outcome Result → Type 0

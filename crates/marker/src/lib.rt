@@ -1,25 +1,32 @@
 // Marks the sheet of a day file.
 ghost use mathlib.Core.Path.{_≡_};
-ghost use Prim.Native.Nat.{ℕ, _≤_};
+ghost use Prim.Native.Nat.{_≤_};
 ghost use lib.ListN.{length};
+ghost use Rattle.fairness.specs.Instance.{Feasible};
 ghost use Rattle.model.specs.Book as model;
 ghost use Rattle.model.specs.Marks.{markOf};
-ghost use Rattle.dayfile.specs.Layout.{sheetOf};
-ghost use Rattle.dayfile.specs.Memory.{heldIf};
-ghost use Rattle.sheet.specs.Sheets.{gridOf};
-ghost use Rattle.terms.specs.Terms.{Told, Shows, Ranged, Counted};
-ghost use Rattle.marker.specs.Marking.{Marks};
-ghost use Rattle.marker.specs.Steps.{fairMark, MarkedAs, Kept, KeepsLawful};
+ghost use Rattle.sheet.specs.Sheets.{credit};
+ghost use Rattle.dayfile.specs.Table.{movesRoom};
+ghost use Rattle.dayfile.specs.Memory.{bookIn, Reads};
+ghost use Rattle.instance.specs.Terms.{instanceIn, Told, Shows, Small};
+ghost use Rattle.dayfile.specs.Outcome.{answer};
+ghost use Rattle.marker.specs.Marking.{told, numbersOf, Marks};
+ghost use Rattle.marker.specs.Wastes.{cellsIn};
+ghost use Rattle.marker.specs.Steps.{fairMark, MarkedAs, Markable};
 use dayfile::Book;
 use dayfile::Check;
-use exchange::Rule;
-use routes::seek;
-use routes::write_route;
+use dayfile::Reading;
+use exchange::Kind;
+use instance::Terms;
+use lines::check_file;
+use moves::write_moves;
 use sheet::Sheet;
-use terms::Terms;
 use waste::Waste;
+use waste::wasted;
 
-pub mod routes;
+pub mod lines;
+pub mod moves;
+pub mod waste;
 
 // What the marker says: a refusal, or one of the four marks, with numbers counted from 1.
 pub enum Marking {
@@ -30,66 +37,109 @@ pub enum Marking {
     Settled,
 }
 
+// An answer in numbers: a refusal's number and offset, or a mark and what comes with it. What an answer does not use is 0.
+pub struct Numbers {
+    pub refusal: u8,
+    pub offset: usize,
+    pub mark: u8,
+    pub window: usize,
+    pub seat: usize,
+    pub moves: usize,
+}
+
+impl Numbers {
+    // The numbers of a mark.
+    fn of_mark(mark: u8, window: usize, seat: usize, moves: usize) -> Numbers
+        ensures { λ r. ⌜ r ≡ numbersOf (answer (record { mark = mark; window = window; seat = seat; moves = moves })) ⌝ }
+    {
+        Numbers {
+            refusal: 0,
+            offset: 0,
+            mark,
+            window,
+            seat,
+            moves,
+        }
+    }
+}
+
+impl Marking {
+    pub fn numbers(self) -> Numbers
+        ensures { λ r. ⌜ r ≡ numbersOf (told self) ⌝ }
+    {
+        match self {
+            Marking::Refused { number, at } => Numbers {
+                refusal: number,
+                offset: at,
+                mark: 0,
+                window: 0,
+                seat: 0,
+                moves: 0,
+            },
+            Marking::Wasteful { window, seat } => Numbers::of_mark(1, window, seat, 0),
+            Marking::Improvable { moves } => Numbers::of_mark(2, 0, 0, moves),
+            Marking::Tied { moves } => Numbers::of_mark(3, 0, 0, moves),
+            Marking::Settled => Numbers::of_mark(4, 0, 0, 0),
+        }
+    }
+}
+
 // Marks 2 to 4, of a sheet that is not wasteful.
 fn mark_full(sheet: Sheet, caps: [[u16; 24]; 32], t: Terms, moves: &mut [u8]) -> Marking
-    requires { ⌜ Ranged t × Counted t sheet ⌝ }
-    requires { ⌜ 93 ≤ length (now moves) ⌝ }
+    requires { ⌜ Small t caps × Feasible (instanceIn t caps) (credit sheet) ⌝ }
+    requires { ⌜ movesRoom ≤ length (now moves) ⌝ }
     ensures { λ r. ⌜ ((b : model.Book) (s : model.Grid) → Told (model.instanceOf b) t caps → Shows t (model.cell s) sheet →
         MarkedAs b s (fairMark b s) (now (moves .entry)) (now (moves .exit)) r) ⌝ }
 {
-    let better = seek(Rule::Improves, sheet, caps, t);
-    if better.found {
-        let route = better.route;
-        write_route(moves, route);
-        return Marking::Improvable { moves: route.count };
+    let path = exchange::find_path(sheet, caps, t);
+    let kind = path.kind;
+    match kind {
+        Kind::None => Marking::Settled,
+        Kind::Improving => {
+            write_moves(moves, path);
+            Marking::Improvable { moves: path.count }
+        }
+        Kind::WronglyTied => {
+            write_moves(moves, path);
+            Marking::Tied { moves: path.count }
+        }
     }
-    let tie = seek(Rule::TiesWrongly, sheet, caps, t);
-    if tie.found {
-        let route = tie.route;
-        write_route(moves, route);
-        return Marking::Tied { moves: route.count };
-    }
-    Marking::Settled
 }
 
-// The mark of a sheet in memory.
+// The mark of a lawful sheet in memory.
 fn mark_sheet(book: Book, caps: [[u16; 24]; 32], sheet: Sheet, moves: &mut [u8]) -> Marking
-    requires { ⌜ KeepsLawful book caps sheet ⌝ }
-    requires { ⌜ 93 ≤ length (now moves) ⌝ }
-    ensures { λ r. ⌜ ((b : model.Book) (s : model.Grid) → Kept b s book caps sheet →
-        MarkedAs b s (markOf b s) (now (moves .entry)) (now (moves .exit)) r) ⌝ }
+    requires { ⌜ Markable book caps sheet ⌝ }
+    requires { ⌜ movesRoom ≤ length (now moves) ⌝ }
+    ensures { λ r. ⌜ MarkedAs (bookIn book caps) (cellsIn book sheet) (markOf (bookIn book caps) (cellsIn book sheet))
+        (now (moves .entry)) (now (moves .exit)) r ⌝ }
 {
-    let supplies = book.supplies;
-    if let Waste::At { window, seat } = waste::wasted(
-        sheet,
-        caps,
-        supplies,
-        book.seats,
-        book.windows,
-    ) {
+    if let Waste::At { window, seat } = wasted(book, caps, sheet) {
         return Marking::Wasteful {
             window: window + 1,
             seat: seat + 1,
         };
     }
-    mark_full(sheet, caps, bookterms::terms_of(book), moves)
+    mark_full(sheet, caps, instance::terms_of(book), moves)
 }
 
-// The sheet of a file.
-fn sheet_of(file: &[u8]) -> Sheet
-    ensures { λ r. ⌜ gridOf r ≡ heldIf (sheetOf (now (file .entry))) ⌝ }
+// The mark of the sheet in a day file that was read.
+pub fn mark_reading(file: &[u8], reading: Reading, moves: &mut [u8]) -> Marking
+    requires { ⌜ Reads (now file) reading ⌝ }
+    ensures { λ r. ⌜ Marks (now (file .entry)) (now (moves .entry)) (now (moves .exit)) r ⌝ }
 {
-    Sheet::from_grid(reader::read_sheet(file))
+    let first = reading.check;
+    if let Check::Refused { number, at } = check_file(file, first, moves.len()) {
+        return Marking::Refused { number, at };
+    }
+    let day = reading.day;
+    let book = day.book;
+    let caps = day.caps;
+    mark_sheet(book, caps.to_grid(), day.sheet, moves)
 }
 
 // The mark of the sheet in a day file; the path of marks 2 and 3 is written to the front of the buffer.
 pub fn mark(file: &[u8], moves: &mut [u8]) -> Marking
     ensures { λ r. ⌜ Marks (now (file .entry)) (now (moves .entry)) (now (moves .exit)) r ⌝ }
 {
-    if let Check::Refused { number, at } = markchecks::mark_check(file, moves.len()) {
-        return Marking::Refused { number, at };
-    }
-    let book = reader::read_book(file);
-    let caps = reader::read_caps(file);
-    mark_sheet(book, caps, sheet_of(file), moves)
+    mark_reading(file, reader::read(file), moves)
 }

@@ -8,12 +8,12 @@ mod shortest;
 
 ghost use Prim.Native.Nat.{_≤_, _<_};
 ghost use Rattle.start.specs.Keeps.{Keeps};
+use instance::Terms;
 use masks::full;
 use masks::minus;
 use residual::Phase;
 use residual::Residual;
 use sheet::Caps;
-use instance::Terms;
 
 // One augmentation: the lowest receiver that is active takes from the highest donor that it reaches. Returns who is active after it.
 fn turn(grid: &mut Caps, residual: &mut Residual, caps: &Caps, phase: Phase, active: u32) -> u32

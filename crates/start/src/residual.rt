@@ -1,11 +1,11 @@
 // The residual graph of a grid: who can take and who can give in each window, and what seats are ranked by.
 ghost use Prim.Native.Nat.{_≤_, _<_};
 use fill::room;
+use instance::Terms;
 use masks::insert;
 use masks::remove;
 use sheet::Caps;
 use sheet::Move;
-use instance::Terms;
 
 // All of it in one array of rows, which is lent whole.
 pub(crate) type Residual = [[u32; 32]; 5];

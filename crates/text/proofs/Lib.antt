@@ -1,4 +1,3 @@
--- What is known of digits and of stored text, for this crate and those above it.
+-- What is known of digits and of loops that store them, for this crate and those above it.
 pub mod Digits
-pub mod Buffer
 pub mod Loops

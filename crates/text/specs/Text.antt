@@ -6,8 +6,6 @@ use Prim.Native.Char.{code}
 use Prim.Native.String.{String, [] as empty, _∷_ as _then_}
 use lib.Dec.{ltb}
 use lib.ListN.{getD}
-unfoldable pub use Rattle.lists.specs.Buffers.{putAt}
-pub use Rattle.lists.specs.Buffers.{Room, Stored}
 
 -- the bytes of a text of ASCII characters
 abbrev pub ascii : String → List ℕ

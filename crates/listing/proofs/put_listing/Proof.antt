@@ -1,8 +1,9 @@
 -- `listing::put_listing` meets its contract.
 use borrow.Author.Needs.{needs}
 use mir.Syntax.{w8, w16, w32}
-use Rattle.text.specs.Text.{Room}
-use Rattle.text.proofs.Buffer.{room-first, room-next, stored-next}
+use Rattle.lists.specs.Buffers.{Room}
+use Rattle.lists.proofs.Buffers.{room-first, room-next, stored-next}
+use Rattle.marker.specs.Marking.{resultIn}
 use Rattle.listing.specs.Listing.{listingText}
 use Rattle.listing.proofs.Bounds.{below, listing-le}
 use Rattle.listing.proofs.Fronts.{front-room, printed}
@@ -12,19 +13,19 @@ use Rattle.listing.proofs.put_listing.Tie as tie
 -- the buffer has room for the whole text
 fits : (c : tie.After-shared-slice-known) → let a = c .before .before .args in
     Room (a .out .now) 0
-    (listingText (a .seats) (a .windows) (a .classes) (a .supplies) (a .placed) (a .totals)
-    (a .mark) (a .window) (a .seat) (a .moves .now) (a .count))
+    (listingText (a .book .seats) (a .book .windows) (a .book .classes) (a .book .supplies) (a .sums .placed) (a .sums .totals)
+    (resultIn (a .result)) (a .moves .now))
 fits c =
     let s = c .before .before in
     let a = s .args in
-    let classes = below w16 (a .classes) (λ i. search needs) in
-    let supplies = below w16 (a .supplies) (λ i. search needs) in
-    let placed = below w32 (a .placed) (λ i. search needs) in
-    let totals = below w32 (a .totals) (λ i. search needs) in
+    let classes = below w16 (a .book .classes) (λ i. search needs) in
+    let supplies = below w16 (a .book .supplies) (λ i. search needs) in
+    let placed = below w32 (a .sums .placed) (λ i. search needs) in
+    let totals = below w32 (a .sums .totals) (λ i. search needs) in
     let moves = below w8 (a .moves .now) (c .shared-slice-known .given) in
-    let book = listing-le (a .seats) (a .windows) _ _ _ _ (search needs) (search needs) classes supplies placed totals in
-    let all = book (a .mark) (a .window) (a .seat) _ (a .count) (search needs) (search needs) (search needs) moves (search needs) in
-    front-room all (s .pre .0)
+    let book = listing-le (a .book .seats) (a .book .windows) _ _ _ _ (search needs) (search needs) classes supplies placed totals in
+    let known = s .good .1 .1 .1 .0 in
+    front-room (book (resultIn (a .result)) _ (search known) (search known) (search known) moves (s .pre .1 .1 .0)) (s .pre .0)
 
 put-book-lines-requires : tie.Need-put-book-lines-requires
 unfolding listingText

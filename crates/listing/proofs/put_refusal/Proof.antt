@@ -1,7 +1,7 @@
 -- `listing::put_refusal` meets its contract.
 use borrow.Author.Needs.{needs}
-use Rattle.text.specs.Text.{Room}
-use Rattle.text.proofs.Buffer.{room-first, room-next, stored-next}
+use Rattle.lists.specs.Buffers.{Room}
+use Rattle.lists.proofs.Buffers.{room-first, room-next, stored-next}
 use Rattle.listing.specs.Listing.{refusalLine}
 use Rattle.listing.proofs.Bounds.{refusal-le}
 use Rattle.listing.proofs.Fronts.{front-room, printed}

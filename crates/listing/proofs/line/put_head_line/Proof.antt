@@ -1,6 +1,6 @@
 -- `listing::line::put_head_line` meets its contract.
 use borrow.Author.Needs.{needs}
-use Rattle.text.proofs.Buffer.{room-first, room-next, stored-next}
+use Rattle.lists.proofs.Buffers.{room-first, room-next, stored-next}
 use Rattle.listing.specs.Listing.{headLine}
 use Rattle.listing.proofs.line.put_head_line.Statement.{statement}
 use Rattle.listing.proofs.line.put_head_line.Tie as tie

@@ -1,6 +1,6 @@
 -- `listing::line::put_move_line` meets its contract.
 use borrow.Author.Needs.{needs}
-use Rattle.text.proofs.Buffer.{room-first, room-next, stored-next}
+use Rattle.lists.proofs.Buffers.{room-first, room-next, stored-next}
 use Rattle.listing.specs.Listing.{moveLine}
 use Rattle.listing.proofs.line.put_move_line.Statement.{statement}
 use Rattle.listing.proofs.line.put_move_line.Tie as tie

@@ -1,6 +1,6 @@
 -- `listing::part::put_last_field` meets its contract.
 use borrow.Author.Needs.{needs}
-use Rattle.text.proofs.Buffer.{room-first, room-next, stored-next}
+use Rattle.lists.proofs.Buffers.{room-first, room-next, stored-next}
 use Rattle.listing.specs.Listing.{labelledLast}
 use Rattle.listing.proofs.part.put_last_field.Statement.{statement}
 use Rattle.listing.proofs.part.put_last_field.Tie as tie

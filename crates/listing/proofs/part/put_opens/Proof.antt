@@ -2,7 +2,7 @@
 use borrow.Author.Needs.{needs}
 use mathlib.Core.Path.{sym, ap}
 use Rattle.text.specs.Text.{fourDigits}
-use Rattle.text.proofs.Buffer.{room-first, room-next, room-as, stored-next, stored-as}
+use Rattle.lists.proofs.Buffers.{room-first, room-next, room-as, stored-next, stored-as}
 use Rattle.listing.specs.Listing.{opens}
 use Rattle.listing.proofs.part.put_opens.Statement.{statement}
 use Rattle.listing.proofs.part.put_opens.Tie as tie

@@ -1,2 +1,0 @@
--- The text that the program `mark` prints of a file.
-pub mod Report
