@@ -16,8 +16,8 @@ fn settled_grid(grid: Caps, t: Terms, caps: Caps) -> Sheet
     ensures { λ r. ⌜ ((I : Instance) → Told I t caps → Settled I (credit r)) ⌝ }
 {
     let mut filled = grid;
-    fill::fill(&mut filled, &caps, t);
-    start::even_out(&mut filled, &caps, t);
+    fill::fill(&mut filled, caps, t);
+    start::even_out(&mut filled, caps, t);
     settle::settle(Sheet::from_grid(filled), caps, t)
 }
 
