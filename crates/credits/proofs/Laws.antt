@@ -1,4 +1,4 @@
--- How large the numbers of a mark can be. Assumes nothing.
+-- The day that was handed in, and how large the numbers of a mark can be. Assumes nothing.
 use mathlib.Core.Path.{_≡_, refl}
 use mathlib.Core.List.{List}
 use mathlib.Core.Option.{Option, none, some}
@@ -10,6 +10,9 @@ use Rattle.model.proofs.Marks.{within-book}
 use Rattle.dayfile.specs.Layout.{bookOf}
 use Rattle.dayfile.specs.Table.{Refusal, firstOf, readLines, markerLines, sheetLines, bufferLines, markLines, movesRoom}
 use Rattle.dayfile.specs.Outcome.{Outcome, turnedAway, answer, unless}
+use Rattle.dayfile.specs.declared.Day.{Day}
+use Rattle.dayfile.specs.declared.Written.{Written}
+use Rattle.dayfile.specs.Memory.{WritesDay}
 use Rattle.dayfile.proofs.Lines.{none-parts}
 use Rattle.dayfile.proofs.Sound.{sound}
 use Rattle.dayfile.proofs.Accepted.{fits}
@@ -17,7 +20,14 @@ use Rattle.marker.specs.declared.Marking.{Marking}
 use Rattle.marker.specs.declared.Numbers.{Numbers}
 use Rattle.marker.specs.Marking.{sheetIn, markFile, told, results, numbersOf, Marks}
 use Rattle.marker.proofs.Theorems.{marks-says}
+use Rattle.credits.specs.declared.WriteResult.{WriteResult}
+use Rattle.credits.specs.Numbers.{InNumbers, writeNumbers}
 use Rattle.credits.specs.Steps.{Small}
+
+-- the writer is given a day that is another's
+pub writes-as : {d e : Day} {before after : List ℕ} (w : Written) {r : WriteResult} → d ≡ e → WritesDay d before after w →
+    r ≡ writeNumbers w → InNumbers writeNumbers (WritesDay e before after) r
+writes-as w p h is = record { answers = w; meets = rw p at h; says = is }
 
 -- an answer's numbers in memory
 pub small-numbers : (o : Outcome Result) (n : Numbers) → Small o → n ≡ numbersOf o → (n .window ≤ 32) × (n .seat ≤ 32) × (n .moves ≤ 32)
