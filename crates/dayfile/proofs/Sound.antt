@@ -35,7 +35,6 @@ FieldsWithin f at n low high = (i : ℕ) → i < n → within low high (field f 
 
 pub record Sound (f : List ℕ) : Type 0 where
   pub order : InOrder f
-  pub count-high : count f ≤ known
   pub room : contentsEnd (count f) ≤ length f
   pub starts : (e : ℕ) → e < count f → start f e ≡ ends f e
   pub last : ends f (count f) ≡ length f
@@ -144,7 +143,6 @@ module _ (f : List ℕ) (free : firstOf (readLines f) ≡ none) where
       λ k g e h q. grid-size f e (all-right sizeAt (gridRight f) (count f) (l .1 .1 .0) e h) (ap (within 3 4) q ∙ g) in
       record {
         order = o;
-        count-high = within-high 3 known (count f) two;
         room = ltb-false (length f) (contentsEnd (count f)) (when-none _ (length f) (n .1 .1 .0));
         starts = λ e h. eqb-true (start f e) (ends f e) (all-right startAt start-right (count f) (n .1 .1 .1 .1 .0) e h);
         last = eqb-true (ends f (count f)) (length f) (kept _ (length f) (n .1 .1 .1 .1 .1 .0));

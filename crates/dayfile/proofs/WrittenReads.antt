@@ -14,7 +14,7 @@ use Rattle.model.specs.Book.{Book, Grid, Shaped, seats, windows}
 use Rattle.model.proofs.Lowest.{lowest-fails}
 use Rattle.dayfile.specs.Bounds.{Fit, SheetFit}
 use Rattle.dayfile.specs.Layout.{field, count, contentsEnd, kind, start, size, ends, seatsIn, windowsIn, kindAt, startAt, sizeAt}
-use Rattle.dayfile.specs.Layout.{entryOf, fieldsAt, gridAt, bookOf, sheetOf}
+use Rattle.dayfile.specs.Layout.{entryOf, fieldsAt, gridAt, gridIn, bookOf, sheetOf}
 use Rattle.dayfile.specs.File.{Part, part, partsOf, flatIf, optParts, flat, assemble, fileOf}
 use Rattle.dayfile.specs.Table.{firstOf, within, offset, known, kindRight, sizeRight, gridRight, outside}
 use Rattle.dayfile.specs.Table.{line1, line2, line3, line4, line5, line6, line7, line8, line9, line10, line11, line12}
@@ -247,7 +247,7 @@ module _ (b : Book) (o : Option Grid) (fit : Fit b) (sheet : SheetFit b o) where
   made x y z = record { classes = x; supplies = y; caps = z }
 
   grid-f : (e : ℕ) (g : Grid) → e < length ps → nth ps e .body ≡ flat g → Shaped S W g
-      → gridAt f (start f e) (seatsIn f) (windowsIn f) ≡ g
+      → gridIn f e ≡ g
   grid-f e g h q s =
       ap₂ (gridAt f (start f e)) seats-f windows-f
       ∙ grid-there f (start f e) S W g s
@@ -256,7 +256,7 @@ module _ (b : Book) (o : Option Grid) (fit : Fit b) (sheet : SheetFit b o) where
   book-is : bookOf f ≡ b
   unfolding bookOf
   book-is =
-      ap₂ (λ (x y : List ℕ). made x y (gridAt f (start f 2) (seatsIn f) (windowsIn f)))
+      ap₂ (λ (x y : List ℕ). made x y (gridIn f 2))
       (ap (fieldsAt f (start f 0)) seats-f ∙ body-f 0 (omega arith))
       (ap (fieldsAt f (start f 1)) windows-f ∙ body-f 1 (omega arith))
       ∙ ap (made (b .classes) (b .supplies)) (grid-f 2 (b .caps) (omega arith) refl (fit .cap-shape))
@@ -272,7 +272,7 @@ module _ (b : Book) (o : Option Grid) (fit : Fit b) (sheet : SheetFit b o) where
 
   -- a grid of a kind that may be missing
   grid-at : (r : Option ℕ) (g : Option Grid) → SheetFit b g → BodyAt (length ps) ps refl order-f r (flatIf g)
-      → andThen r (λ e. some (gridAt f (start f e) (seatsIn f) (windowsIn f))) ≡ g
+      → andThen r (λ e. some (gridIn f e)) ≡ g
   grid-at none none p h = refl
   grid-at none (some g) p h = absurd h
   grid-at (some e) none p h = absurd h

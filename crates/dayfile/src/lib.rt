@@ -12,6 +12,9 @@ use sheet::Sheet;
 // The last kind that is known.
 pub const KNOWN: usize = 4;
 
+// The length of the longest file.
+pub const LONGEST_FILE: usize = 3210;
+
 // Where a line of the table of refusals holds.
 pub enum Found {
     At(usize),

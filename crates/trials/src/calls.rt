@@ -3,6 +3,7 @@ use dayfile::Book;
 use dayfile::Check;
 use dayfile::Written;
 use marker::Marking;
+use oracle::memory::day_of;
 use say::all_from;
 use say::front;
 
@@ -112,12 +113,9 @@ pub fn written_again(file: &[u8], first: Check) -> bool {
     if !sound(first) {
         return true;
     }
-    let there = reader::has_sheet(file);
-    let caps = reader::read_caps(file);
-    let sheet = reader::read_sheet(file);
+    let read = reader::read(file);
     let mut out = [255u8; 128];
-    let w = writer::write(&mut out, reader::read_book(file), caps, there, sheet);
-    let Written::Whole { length } = w else {
+    let Written::Whole { length } = writer::write(&mut out, read.day) else {
         return false;
     };
     check::same(front(&out, length), file) && all_from(&out, length, 255)
@@ -125,7 +123,7 @@ pub fn written_again(file: &[u8], first: Check) -> bool {
 
 // The writer's answer. What it writes, the reader takes.
 pub fn see_write(book: Book, caps: [[u16; 24]; 32], out: &mut [u8]) -> Seen {
-    match writer::write(out, book, caps, true, caps) {
+    match writer::write(out, day_of(book, caps, true, caps)) {
         Written::Refused { number, at: _ } => Seen {
             number,
             right: all_from(out, 0, 255),

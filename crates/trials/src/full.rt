@@ -4,10 +4,12 @@ use crate::tally::more;
 use crate::tally::more_if;
 use crate::tally::say_count;
 use dayfile::Book;
+use dayfile::LONGEST_FILE;
 use dayfile::Written;
 use draws::full::draw_book;
 use draws::full::draw_caps;
 use draws::full::draw_most;
+use oracle::memory::day_of;
 use say::all_from;
 use say::front;
 
@@ -35,7 +37,7 @@ impl Planned {
 
 // Whether a planned file gets mark 4, and planned again stays as it is: the sheet that is given does not count.
 fn rightly_planned(file: &[u8]) -> bool {
-    let mut again = [255u8; 3210];
+    let mut again = [255u8; LONGEST_FILE];
     let Written::Whole { length } = planner::plan(file, &mut again) else {
         return false;
     };
@@ -43,8 +45,9 @@ fn rightly_planned(file: &[u8]) -> bool {
 }
 
 fn judge_book(book: Book, caps: [[u16; 24]; 32]) -> bool {
-    let mut file = [0u8; 3210];
-    let Written::Whole { length } = writer::write(&mut file, book, caps, false, caps) else {
+    let mut file = [0u8; LONGEST_FILE];
+    let day = day_of(book, caps, false, caps);
+    let Written::Whole { length } = writer::write(&mut file, day) else {
         return false;
     };
     let mut out = [255u8; 3220];

@@ -11,6 +11,7 @@ use crate::tally::more_if;
 use crate::tally::say_count;
 use dayfile::Book;
 use dayfile::Check;
+use dayfile::LONGEST_FILE;
 use draws::below;
 use draws::damage::damage_book;
 use draws::damage::damage_caps;
@@ -122,13 +123,13 @@ fn plan_with(file: &[u8], first: Check, short: bool) -> Seen {
     see_plan(file, first, &mut out)
 }
 
-// The writer's answer with a buffer of 60 or 3,210 bytes.
+// The writer's answer with a buffer of 60 bytes, or one for any file.
 fn write_with(book: Book, caps: [[u16; 24]; 32], short: bool) -> Seen {
     if short {
         let mut few = [255u8; 60];
         return see_write(book, caps, &mut few);
     }
-    let mut out = [255u8; 3210];
+    let mut out = [255u8; LONGEST_FILE];
     see_write(book, caps, &mut out)
 }
 

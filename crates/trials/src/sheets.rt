@@ -7,6 +7,7 @@ use marker::Marking;
 use oracle::Small;
 use oracle::memory::book_of;
 use oracle::memory::cells_of;
+use oracle::memory::day_of;
 use oracle::memory::grid_of;
 use oracle::next_sheet;
 use oracle::paths::play;
@@ -103,7 +104,7 @@ fn rightly_marked(s: Small, best: Best, cells: [u16; 12], m: Marking, moves: &[u
 // The mark of a sheet of a book in memory. What the writer refused counts as refusal 0.
 fn mark_cells(book: Book, caps: [[u16; 24]; 32], cells: [u16; 12], moves: &mut [u8]) -> Marking {
     let mut file = [0u8; 96];
-    match writer::write(&mut file, book, caps, true, grid_of(cells)) {
+    match writer::write(&mut file, day_of(book, caps, true, grid_of(cells))) {
         Written::Whole { length } => marker::mark(front(&file, length), moves),
         Written::Refused { number: _, at } => Marking::Refused { number: 0, at },
     }
@@ -144,7 +145,9 @@ fn judge_sheets(tally: Tally, s: Small, best: Best) -> Tally {
 
 // Whether the sheet of a planned file is the best one and gets mark 4.
 fn rightly_planned(s: Small, best: Best, file: &[u8]) -> bool {
-    let cells = cells_of(reader::read_sheet(file));
+    let read = reader::read(file);
+    let day = read.day;
+    let cells = cells_of(day.sheet.to_grid());
     let mut moves = [255u8; 93];
     let m = marker::mark(file, &mut moves);
     rightly_settled(s, best, cells) && rightly_marked(s, best, cells, m, &moves)
@@ -155,7 +158,8 @@ fn judge_plan(s: Small, best: Best) -> bool {
     let small = s.caps;
     let caps = grid_of(small);
     let mut file = [0u8; 96];
-    let Written::Whole { length } = writer::write(&mut file, book_of(s), caps, false, caps) else {
+    let day = day_of(book_of(s), caps, false, caps);
+    let Written::Whole { length } = writer::write(&mut file, day) else {
         return false;
     };
     let mut out = [255u8; 96];
