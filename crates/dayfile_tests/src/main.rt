@@ -1,5 +1,6 @@
 // Prints what the reader and the writer make of real bytes: K11 of paper 01 and its damaged forms, and its pairs "turned away and taken".
 use dayfile::Book;
+use dayfile::Day;
 use sample::Sample;
 use sample::say_sample;
 use say::front;
@@ -22,8 +23,10 @@ fn say_read(name: &[u8], file: &[u8]) {
 
 // The book of a file of one seat and one window.
 fn say_book(file: &[u8]) {
-    let book = reader::read_book(file);
-    let caps = reader::read_caps(file);
+    let read = reader::read(file);
+    let day = read.day;
+    let book = day.book;
+    let caps = day.caps.to_grid();
     say_text(b"seats ");
     say_number(book.seats);
     say_text(b" windows ");
@@ -39,8 +42,10 @@ fn say_book(file: &[u8]) {
 
 // Whether a file has a sheet, and the sheet's first cell.
 fn say_sheet(file: &[u8]) {
-    if reader::has_sheet(file) {
-        let sheet = reader::read_sheet(file);
+    let read = reader::read(file);
+    let day = read.day;
+    if day.has_sheet {
+        let sheet = day.sheet.to_grid();
         say_text(b"sheet ");
         say_cell(sheet[0][0]);
         say_text(b"\n");
@@ -76,7 +81,7 @@ fn say_k11(out: &mut [u8], there: bool) {
         supplies: [3u16; 24],
     };
     let caps = [[2u16; 24]; 32];
-    say_written(writer::write(out, book, caps, there, caps));
+    say_written(writer::write(out, Day::new(book, caps, there, caps)));
     say_text(b", buffer ");
     say_hex(out);
     say_sheet(out);

@@ -3,6 +3,7 @@ ghost use mathlib.Core.Path.{_≡_};
 ghost use Prim.Native.Nat.{_<_, _≤_};
 ghost use lib.ListN.{length, take};
 use dayfile::Book;
+use dayfile::Day;
 use dayfile::Written;
 use say::front;
 use say::say_check;
@@ -114,7 +115,7 @@ fn say_writer(s: Sample, file: &[u8]) {
     let row = [s.cap; 24];
     let caps = [row; 32];
     let mut out = [0u8; 256];
-    let w = writer::write(&mut out, book, caps, false, caps);
+    let w = writer::write(&mut out, Day::new(book, caps, false, caps));
     say_written(w);
     if let Written::Whole { length } = w {
         if same_front(&out, length, file) {

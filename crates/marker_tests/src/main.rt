@@ -1,6 +1,7 @@
 // Prints what the marker makes of paper 01's sheets, of the files that only it turns away, each beside one that it takes, and of a
 // longest exchange path.
 use dayfile::Book;
+use dayfile::Day;
 use dayfile::Written;
 use marks::say_mark;
 use say::front;
@@ -21,7 +22,7 @@ fn mark_book(
     moves: &mut [u8],
 ) {
     let mut file = [0u8; 3210];
-    let w = writer::write(&mut file, book, caps, there, sheet);
+    let w = writer::write(&mut file, Day::new(book, caps, there, sheet));
     if let Written::Whole { length } = w {
         say_mark(name, front(&file, length), moves);
     } else {
