@@ -1,6 +1,7 @@
 // Prints what the reader and the writer make of real bytes: K11 of paper 01 and its damaged forms, and its pairs "turned away and taken".
 use dayfile::Book;
 use dayfile::Day;
+use dayfile::Written;
 use sample::Sample;
 use sample::say_sample;
 use say::front;
@@ -55,6 +56,13 @@ fn say_sheet(file: &[u8]) {
 }
 
 // The same of the first n bytes.
+fn say_written_sheet(file: &[u8], n: usize) {
+    if n <= file.len() {
+        say_sheet(front(file, n));
+    }
+}
+
+// What the reader says of the first n bytes.
 fn say_front(name: &[u8], file: &[u8], n: usize) {
     if n <= file.len() {
         say_read(name, front(file, n));
@@ -66,8 +74,8 @@ fn k11() {
     let file =
         b"\x03\x00\x01\x00\x14\x00\x02\x00\x02\x00\x16\x00\x02\x00\x03\x00\x18\x00\x02\x00\x01\x00\x03\x00\x02\x00\x00";
     say_front(b"K11", file, 26);
-    say_book(file);
-    say_sheet(file);
+    say_book(front(file, 26));
+    say_sheet(front(file, 26));
     say_front(b"K11 less its last byte", file, 25);
     say_front(b"K11 and one byte more", file, 27);
 }
@@ -81,10 +89,14 @@ fn say_k11(out: &mut [u8], there: bool) {
         supplies: [3u16; 24],
     };
     let caps = [[2u16; 24]; 32];
-    say_written(writer::write(out, Day::new(book, caps, there, caps)));
+    let w = writer::write(out, Day::new(book, caps, there, caps));
+    say_written(w);
     say_text(b", buffer ");
     say_hex(out);
-    say_sheet(out);
+    match w {
+        Written::Whole { length } => say_written_sheet(out, length),
+        Written::Refused { number: _, at: _ } => say_sheet(out),
+    }
 }
 
 // Buffers that are one byte short, and one that is long enough.
