@@ -6,10 +6,10 @@ use crate::small::draw_cells;
 use crate::small::draw_small;
 use crate::up_to;
 use dayfile::Book;
+use dayfile::Day;
 use dayfile::Written;
 use oracle::Small;
 use oracle::memory::book_of;
-use oracle::memory::day_of;
 use oracle::memory::grid_of;
 
 // A byte, if there is one at that offset.
@@ -55,7 +55,7 @@ fn draw_written(state: &mut u32, file: &mut [u8]) -> usize {
     let caps = grid_of(small);
     let there = below(state, 4) != 0;
     let sheet = grid_of(draw_sheet(state, s));
-    match writer::write(file, day_of(book_of(s), caps, there, sheet)) {
+    match writer::write(file, Day::new(book_of(s), caps, there, sheet)) {
         Written::Whole { length } => length,
         Written::Refused { number: _, at: _ } => 0,
     }

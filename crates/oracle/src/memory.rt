@@ -1,8 +1,6 @@
 // Small books and sheets in the form that the library takes.
 use crate::Small;
 use dayfile::Book;
-use dayfile::Day;
-use sheet::Sheet;
 
 // The book in memory, but for its caps.
 pub fn book_of(s: Small) -> Book {
@@ -44,14 +42,4 @@ pub fn cells_of(grid: [[u16; 24]; 32]) -> [u16; 12] {
         cells[k] = grid[i][w];
     }
     cells
-}
-
-// A day of a book, its caps, and a sheet or its absence.
-pub fn day_of(book: Book, caps: [[u16; 24]; 32], has_sheet: bool, sheet: [[u16; 24]; 32]) -> Day {
-    Day {
-        book,
-        caps: Sheet::from_grid(caps),
-        has_sheet,
-        sheet: Sheet::from_grid(sheet),
-    }
 }

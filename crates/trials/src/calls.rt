@@ -1,9 +1,9 @@
 // Damaged files and books through all calls: their refusals agree, and none changes a byte.
 use dayfile::Book;
 use dayfile::Check;
+use dayfile::Day;
 use dayfile::Written;
 use marker::Marking;
-use oracle::memory::day_of;
 use say::all_from;
 use say::front;
 
@@ -123,7 +123,7 @@ pub fn written_again(file: &[u8], first: Check) -> bool {
 
 // The writer's answer. What it writes, the reader takes.
 pub fn see_write(book: Book, caps: [[u16; 24]; 32], out: &mut [u8]) -> Seen {
-    match writer::write(out, day_of(book, caps, true, caps)) {
+    match writer::write(out, Day::new(book, caps, true, caps)) {
         Written::Refused { number, at: _ } => Seen {
             number,
             right: all_from(out, 0, 255),

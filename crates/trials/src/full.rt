@@ -4,12 +4,12 @@ use crate::tally::more;
 use crate::tally::more_if;
 use crate::tally::say_count;
 use dayfile::Book;
+use dayfile::Day;
 use dayfile::LONGEST_FILE;
 use dayfile::Written;
 use draws::full::draw_book;
 use draws::full::draw_caps;
 use draws::full::draw_most;
-use oracle::memory::day_of;
 use say::all_from;
 use say::front;
 
@@ -46,7 +46,7 @@ fn rightly_planned(file: &[u8]) -> bool {
 
 fn judge_book(book: Book, caps: [[u16; 24]; 32]) -> bool {
     let mut file = [0u8; LONGEST_FILE];
-    let day = day_of(book, caps, false, caps);
+    let day = Day::new(book, caps, false, caps);
     let Written::Whole { length } = writer::write(&mut file, day) else {
         return false;
     };

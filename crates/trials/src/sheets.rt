@@ -2,12 +2,12 @@
 use crate::calls::kept;
 use crate::tally::Tally;
 use dayfile::Book;
+use dayfile::Day;
 use dayfile::Written;
 use marker::Marking;
 use oracle::Small;
 use oracle::memory::book_of;
 use oracle::memory::cells_of;
-use oracle::memory::day_of;
 use oracle::memory::grid_of;
 use oracle::next_sheet;
 use oracle::paths::play;
@@ -104,7 +104,7 @@ fn rightly_marked(s: Small, best: Best, cells: [u16; 12], m: Marking, moves: &[u
 // The mark of a sheet of a book in memory. What the writer refused counts as refusal 0.
 fn mark_cells(book: Book, caps: [[u16; 24]; 32], cells: [u16; 12], moves: &mut [u8]) -> Marking {
     let mut file = [0u8; 96];
-    match writer::write(&mut file, day_of(book, caps, true, grid_of(cells))) {
+    match writer::write(&mut file, Day::new(book, caps, true, grid_of(cells))) {
         Written::Whole { length } => marker::mark(front(&file, length), moves),
         Written::Refused { number: _, at } => Marking::Refused { number: 0, at },
     }
@@ -158,7 +158,7 @@ fn judge_plan(s: Small, best: Best) -> bool {
     let small = s.caps;
     let caps = grid_of(small);
     let mut file = [0u8; 96];
-    let day = day_of(book_of(s), caps, false, caps);
+    let day = Day::new(book_of(s), caps, false, caps);
     let Written::Whole { length } = writer::write(&mut file, day) else {
         return false;
     };

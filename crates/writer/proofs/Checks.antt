@@ -31,9 +31,9 @@ use Rattle.dayfile.proofs.Fields.{fields-at}
 use Rattle.dayfile.proofs.Grids.{sized-flat-length}
 use Rattle.dayfile.proofs.Container.{nth, before, start-is, size-is, body-is}
 use Rattle.dayfile.proofs.Sound.{kept}
-use Rattle.writer.specs.Stores.{entries, slotsIn, partsIn}
+use Rattle.writer.specs.Stores.{entries, slotsIn}
 use Rattle.writer.specs.Values.{outsideIn}
-use Rattle.writer.proofs.Files.{parts-count}
+use Rattle.writer.proofs.Files.{partsIn, parts-count}
 
 -- ---- counts and sizes
 
@@ -180,7 +180,8 @@ module _ (d : Day) where
     ten =
         let s = size-seats in
         let l = sized-length n (d .book .classes) in
-        search-body 0 (omega arith) (sized n (d .book .classes)) (seatsIn f) at 1 8 (three .classes) (omega arith) (omega (arith, first, three .first))
+        search-body 0 (omega arith) (sized n (d .book .classes)) (seatsIn f) at 1 8 (three .classes) (omega arith)
+        (omega (arith, first, three .first))
 
     eleven : line11 f ≡ outsideIn (sized m (d .book .supplies)) (at + 2 * n) 0 4095
     unfolding line11

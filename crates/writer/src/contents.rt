@@ -2,8 +2,7 @@
 ghost use mathlib.Core.Path.{_≡_};
 ghost use Prim.Native.Nat.{_+_, _*_, _<_, _≤_};
 ghost use lib.ListN.{length};
-ghost use Rattle.dayfile.specs.Layout.{contentsEnd};
-ghost use Rattle.writer.specs.Stores.{Put, size, entry, entries, sizes, entriesAt, head, slotsOf};
+ghost use Rattle.writer.specs.Stores.{Room, Put, size, entry, entries, sizes, entriesAt, head, slotCount, slotsOf};
 use super::numbers::put;
 use super::numbers::size_if;
 use dayfile::Book;
@@ -58,8 +57,8 @@ pub fn slots_of(book: Book, has_sheet: bool) -> [Slot; SLOTS]
 
 // The number of entries.
 pub fn count_entries(slots: [Slot; SLOTS]) -> usize
-    requires { ⌜ length slots ≡ 4 ⌝ }
-    ensures { λ r. ⌜ (r ≡ entries slots) × (r ≤ 4) ⌝ }
+    requires { ⌜ length slots ≡ slotCount ⌝ }
+    ensures { λ r. ⌜ (r ≡ entries slots) × (r ≤ slotCount) ⌝ }
 {
     let mut n = 0;
     let mut i = 0;
@@ -73,7 +72,7 @@ pub fn count_entries(slots: [Slot; SLOTS]) -> usize
 
 // How many fields all bodies have.
 pub fn count_fields(slots: [Slot; SLOTS]) -> usize
-    requires { ⌜ (length slots ≡ 4) × (sizes slots < 30000) ⌝ }
+    requires { ⌜ (length slots ≡ slotCount) × (sizes slots < 30000) ⌝ }
     ensures { λ r. ⌜ r ≡ sizes slots ⌝ }
 {
     let mut n = 0;
@@ -88,7 +87,7 @@ pub fn count_fields(slots: [Slot; SLOTS]) -> usize
 
 // The entry of a part whose body starts at `start`; nothing where it is missing.
 fn put_entry(buf: &mut [u8], at: usize, slot: Slot, start: usize) -> usize
-    requires { ⌜ (at + 2 * length (entry slot start) ≤ length (now buf)) × (start + 2 * size slot < 65536) ⌝ }
+    requires { ⌜ Room (now buf) at (entry slot start) × (start + 2 * size slot < 65536) ⌝ }
     ensures { λ r. ⌜ Put (now (buf .entry)) at (entry slot start) r (now (buf .exit)) ⌝ }
 {
     if slot.there {
@@ -101,7 +100,7 @@ fn put_entry(buf: &mut [u8], at: usize, slot: Slot, start: usize) -> usize
 
 // The entries, the first body at `start`.
 fn put_entries(buf: &mut [u8], at: usize, slots: [Slot; SLOTS], start: usize) -> usize
-    requires { ⌜ (length slots ≡ 4) × (at + 6 * entries slots ≤ length (now buf)) × (start + 2 * sizes slots < 65536) ⌝ }
+    requires { ⌜ (length slots ≡ slotCount) × Room (now buf) at (entriesAt start slots) × (start + 2 * sizes slots < 65536) ⌝ }
     ensures { λ r. ⌜ Put (now (buf .entry)) at (entriesAt start slots) r (now (buf .exit)) ⌝ }
 {
     let mut p = at;
@@ -118,7 +117,7 @@ fn put_entries(buf: &mut [u8], at: usize, slots: [Slot; SLOTS], start: usize) ->
 
 // The number of entries and the entries.
 pub fn put_contents(buf: &mut [u8], slots: [Slot; SLOTS]) -> usize
-    requires { ⌜ (length slots ≡ 4) × (contentsEnd (entries slots) ≤ length (now buf)) × (sizes slots < 30000) ⌝ }
+    requires { ⌜ (length slots ≡ slotCount) × Room (now buf) 0 (head slots) × (sizes slots < 30000) ⌝ }
     ensures { λ r. ⌜ Put (now (buf .entry)) 0 (head slots) r (now (buf .exit)) ⌝ }
 {
     let n = count_entries(slots);

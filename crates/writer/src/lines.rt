@@ -1,4 +1,5 @@
-// Lines 7, 8, 10, 11, 12 and those of the parts that may be missing, on a day in memory, with the offsets of the file that would be written.
+// Lines 7, 8, 10, 11, 12 and those of the parts that may be missing, on a day in memory, with the offsets of the file that would be
+// written.
 ghost use mathlib.Core.Path.{_≡_};
 ghost use mathlib.Core.List.{[], _∷_, _++_};
 ghost use Prim.Native.Nat.{_+_, _*_, _<_, _≤_};
