@@ -6,9 +6,10 @@ pub mod Coding
 pub mod Fair
 pub mod Memory
 pub mod Accepted
+pub mod Taken
+pub mod Lawfulness
 pub mod Files
 -- for callers: what an answer's numbers tell, and demand 3
 pub mod Telling
-pub mod Taken
 pub mod Decode
 pub mod Theorems

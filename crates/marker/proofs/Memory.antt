@@ -1,7 +1,7 @@
 -- A book and a lawful sheet in memory: what the search for waste and the search for exchange paths ask of them. Assumes nothing.
 use mathlib.Core.Path.{_≡_, refl, subst}
 use mathlib.Core.List.{List}
-use Prim.Native.Nat.{ℕ, _+_, _≤_, _<_}
+use Prim.Native.Nat.{ℕ, _+_, _<_}
 use native.Mathlib.Omega.{arith}
 use Rattle.fairness.specs.Instance.{Feasible}
 use Rattle.model.specs.Book.{Book, Grid, cell, instanceOf}
@@ -25,9 +25,6 @@ use Rattle.marker.proofs.Used.{cell-in}
 use Rattle.marker.proofs.Fair.{marked-as}
 
 module _ (m : Memory.Book) (caps : Grid) (sheet : Sheet) (h : Markable m caps sheet) where
-  pub in-range : (m .seats ≤ 32) × (m .windows ≤ 24)
-  in-range = (omega (arith, seats-in m caps, h .fit .seats-high), omega (arith, windows-in m caps, h .fit .windows-high))
-
   -- the numbers that tell the book
   module _ (t : Terms) (told : Told (instanceOf (bookIn m caps)) t caps) where
     pub shows : Shows t (cell (cellsIn m sheet)) sheet

@@ -54,7 +54,7 @@ module _ (f : List ℕ) (b : Book) (s : Grid) (read : readFile f ≡ answer (b, 
     unfolding bufferLines line16
     buffer-free room long = (ap (λ t. when t movesRoom) (le-ltb room movesRoom long), tt)
 
-    sheet-free : firstOf (sheetLines f) ≡ none
+    pub sheet-free : firstOf (sheetLines f) ≡ none
     unfolding sheetLines
     sheet-free = on-after (readLines f) (markerLines f) (says .0) ∙ none-first-of (markerLines f) marker-free
 

@@ -1,12 +1,15 @@
 -- The used entries of a book and a sheet in memory. Assumes nothing.
 use mathlib.Core.Path.{_≡_, sym, ap, _∙_}
 use mathlib.Core.List.{List, []}
-use Prim.Native.Nat.{ℕ, _<_}
+use Prim.Native.Nat.{ℕ, _≤_, _<_}
+use native.Mathlib.Omega.{arith}
 use lib.ListN.{getD}
 use Rattle.model.specs.Book.{Grid, cell}
+use Rattle.dayfile.specs.Bounds.{Fit}
 use Rattle.dayfile.specs.Memory.{sizedGrid, bookIn}
 use Rattle.dayfile.specs.declared.Book as Memory
 use Rattle.dayfile.proofs.Tables.{sized-at, sized-row}
+use Rattle.dayfile.proofs.Held.{seats-in, windows-in}
 use Rattle.sheet.specs.declared.Sheet.{Sheet}
 use Rattle.sheet.specs.Sheets.{credit, gridOf}
 use Rattle.sheet.proofs.Cells.{credit-cell}
@@ -32,3 +35,7 @@ module _ (m : Memory.Book) where
     pub class-in : (i : ℕ) → i < m .seats → getD (bookIn m caps .classes) i 0 ≡ getD (m .classes) i 0
     unfolding bookIn
     class-in i li = sized-at (m .seats) (m .classes) i li
+
+    -- a book that fits has a small number of seats and windows
+    pub range-in : Fit (bookIn m caps) → (m .seats ≤ 32) × (m .windows ≤ 24)
+    range-in fit = (omega (arith, seats-in m caps, fit .seats-high), omega (arith, windows-in m caps, fit .windows-high))

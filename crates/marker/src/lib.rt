@@ -24,6 +24,7 @@ use sheet::Sheet;
 use waste::Waste;
 use waste::wasted;
 
+mod lawful;
 pub mod lines;
 pub mod moves;
 pub mod waste;
@@ -127,8 +128,7 @@ pub fn mark_reading(file: &[u8], reading: Reading, moves: &mut [u8]) -> Marking
     requires { ⌜ Reads (now file) reading ⌝ }
     ensures { λ r. ⌜ Marks (now (file .entry)) (now (moves .entry)) (now (moves .exit)) r ⌝ }
 {
-    let first = reading.check;
-    if let Check::Refused { number, at } = check_file(file, first, moves.len()) {
+    if let Check::Refused { number, at } = check_file(file, reading, moves.len()) {
         return Marking::Refused { number, at };
     }
     let day = reading.day;

@@ -2,11 +2,13 @@
 ghost use mathlib.Core.Path.{_≡_};
 ghost use Prim.Native.Nat.{_<_};
 ghost use Rattle.dayfile.specs.Table.{line13, line14, line15, placedIn, movesRoom};
-ghost use Rattle.dayfile.specs.Table.{firstOf, readLines, markerLines, sheetLines, bufferLines, markLines};
-ghost use Rattle.dayfile.specs.Memory.{found, refused};
+ghost use Rattle.dayfile.specs.Table.{firstOf, markerLines, sheetLines, bufferLines, markLines};
+ghost use Rattle.dayfile.specs.Memory.{found, refused, Reads};
 ghost use Rattle.marker.specs.Firsts.{firstAbove, firstOver};
+use crate::lawful::is_lawful;
 use dayfile::Check;
 use dayfile::Found;
+use dayfile::Reading;
 use dayfile::first_of;
 use fields::entry_of;
 use fields::field;
@@ -108,13 +110,17 @@ fn check_sheet(file: &[u8]) -> Check
     first_of(13, no_sheet(file), cell_above(file), window_over(file))
 }
 
-// Lines 1 to 15, where those of the reader are known: whether a file holds a lawful sheet.
-pub fn check_lawful(file: &[u8], first: Check) -> Check
-    requires { ⌜ refused first ≡ firstOf (readLines (now file)) ⌝ }
+// Lines 1 to 15, of a file that was read: whether it holds a lawful sheet.
+pub fn check_lawful(file: &[u8], reading: Reading) -> Check
+    requires { ⌜ Reads (now file) reading ⌝ }
     ensures { λ r. ⌜ refused r ≡ firstOf (sheetLines (now (file .entry))) ⌝ }
 {
+    let first = reading.check;
     if let Check::Refused { number, at } = first {
         return Check::Refused { number, at };
+    }
+    if is_lawful(reading.day) {
+        return Check::Sound;
     }
     check_sheet(file)
 }
@@ -132,12 +138,12 @@ fn check_room(room: usize) -> Check
     Check::Sound
 }
 
-// Lines 1 to 16, where those of the reader are known, of a buffer of `room` bytes.
-pub fn check_file(file: &[u8], first: Check, room: usize) -> Check
-    requires { ⌜ refused first ≡ firstOf (readLines (now file)) ⌝ }
+// Lines 1 to 16, of a file that was read and a buffer of `room` bytes.
+pub fn check_file(file: &[u8], reading: Reading, room: usize) -> Check
+    requires { ⌜ Reads (now file) reading ⌝ }
     ensures { λ r. ⌜ refused r ≡ firstOf (markLines (now (file .entry)) room) ⌝ }
 {
-    if let Check::Refused { number, at } = check_lawful(file, first) {
+    if let Check::Refused { number, at } = check_lawful(file, reading) {
         return Check::Refused { number, at };
     }
     check_room(room)

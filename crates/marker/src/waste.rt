@@ -1,11 +1,8 @@
 // Whether a sheet is wasteful: some window has credits left while a seat is below its cap there.
 ghost use mathlib.Core.Path.{_≡_};
 ghost use Prim.Native.Nat.{_≤_, _<_};
-ghost use lib.ListN.{getD};
-ghost use Rattle.model.specs.Book.{cell};
-ghost use Rattle.sheet.specs.Sheets.{credit};
 ghost use Rattle.dayfile.specs.Memory.{found, bookIn};
-ghost use Rattle.marker.specs.Wastes.{lowestBelow, lowestLeft, cellsIn, Tells};
+ghost use Rattle.marker.specs.Wastes.{lowestBelow, cellsIn, Tells};
 use dayfile::Book;
 use dayfile::Found;
 use sheet::Sheet;
@@ -17,35 +14,16 @@ pub enum Waste {
 }
 
 // The lowest seat that is below its cap in a window.
-fn seat_below(sheet: Sheet, caps: [[u16; 24]; 32], seats: usize, window: usize) -> Found
+fn seat_below(cells: &[[u16; 24]; 32], caps: &[[u16; 24]; 32], seats: usize, window: usize) -> Found
     requires { ⌜ (seats ≤ 32) × (window < 24) ⌝ }
-    ensures { λ r. ⌜ found r ≡ lowestBelow (credit sheet) (cell caps) seats window ⌝ }
+    ensures { λ r. ⌜ found r ≡ lowestBelow (now (cells .entry)) (now (caps .entry)) seats window ⌝ }
 {
     let mut i = 0;
     while i < seats {
-        let row = sheet.rows[i];
-        if row.cells[window] < caps[i][window] {
+        if cells[i][window] < caps[i][window] {
             return Found::At(i);
         }
         i += 1;
-    }
-    Found::Nothing
-}
-
-// The same, where the window has credits left.
-fn seat_left(
-    sheet: Sheet,
-    caps: [[u16; 24]; 32],
-    supplies: [u16; 24],
-    seats: usize,
-    window: usize,
-) -> Found
-    requires { ⌜ (seats ≤ 32) × (window < 24) ⌝ }
-    ensures { λ r. ⌜ found r ≡ lowestLeft (credit sheet) (cell caps) (λ j. getD supplies j 0) seats window ⌝ }
-{
-    let supply = supplies[window] as u32;
-    if sheet.placed(window, seats) < supply {
-        return seat_below(sheet, caps, seats, window);
     }
     Found::Nothing
 }
@@ -58,10 +36,14 @@ pub fn wasted(book: Book, caps: [[u16; 24]; 32], sheet: Sheet) -> Waste
     let supplies = book.supplies;
     let seats = book.seats;
     let windows = book.windows;
+    let placed = sheet.placed(seats, windows);
+    let cells = sheet.to_grid();
     let mut window = 0;
     while window < windows {
-        if let Found::At(seat) = seat_left(sheet, caps, supplies, seats, window) {
-            return Waste::At { window, seat };
+        if placed[window] < supplies[window] as u32 {
+            if let Found::At(seat) = seat_below(&cells, &caps, seats, window) {
+                return Waste::At { window, seat };
+            }
         }
         window += 1;
     }

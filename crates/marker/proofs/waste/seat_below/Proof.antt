@@ -6,34 +6,29 @@ use mathlib.Core.Path.{refl}
 use Prim.Native.Nat.{ℕ, _-_}
 use lib.Dec.{ltb}
 use Rattle.model.specs.Book.{Grid, cell}
-use Rattle.sheet.specs.declared.Sheet.{Sheet}
-use Rattle.sheet.specs.Sheets.{credit}
 use Rattle.dayfile.proofs.Search.{Searching, search-first, search-on, search-hit, search-end}
 use Rattle.marker.specs.Wastes.{lowestBelow}
 use Rattle.marker.proofs.waste.seat_below.Statement.{statement}
 use Rattle.marker.proofs.waste.seat_below.Tie as tie
 
-abbrev below : Sheet → Grid → ℕ → ℕ → Bool
-below sheet caps j i = ltb (credit sheet i j) (cell caps i j)
+abbrev below : Grid → Grid → ℕ → ℕ → Bool
+below cells caps j i = ltb (cell cells i j) (cell caps i j)
 
 abbrev Inv-loop : tie.InvT-loop
-Inv-loop seats window sheet caps i₀ i = Searching (below sheet caps window) seats seats i
+Inv-loop cells caps seats window i₀ i = Searching (below cells caps window) seats seats i
 
 abbrev μ-loop : tie.MeasureT-loop
-μ-loop seats window sheet caps i₀ i = seats - i
-
-loop-holds : tie.Need-loop-holds Inv-loop μ-loop
-loop-holds c = search-first refl
+μ-loop cells caps seats window i₀ i = seats - i
 
 returns : tie.Need-returns Inv-loop μ-loop
 unfolding lowestBelow
 returns c =
-    let l = c .before .before .before .before in
+    let l = c .before .before .before in
     search-hit (l .before .loop .inv) (l .loop-test .taken) (lt-ltb _ _ (c .if1 .taken))
 
 loop-again : tie.Need-loop-again Inv-loop μ-loop
 loop-again c =
-    let l = c .before .before .before .before in
+    let l = c .before .before .before in
     search-on (l .before .loop .inv) (l .loop-test .taken) (le-ltb _ _ (c .if1 .left))
 
 returns-2 : tie.Need-returns-2 Inv-loop μ-loop
@@ -46,7 +41,7 @@ seat-below-spec =
     (tie.spec
     Inv-loop
     μ-loop
-    loop-holds
+    (λ c. search-first refl)
     (λ c. search needs)
     (λ c. search needs)
     (λ c. search needs)

@@ -1,6 +1,9 @@
 -- `marker::waste::wasted` meets its contract: no window passed yet is wasted.
 use borrow.Author.Needs.{needs}
-use mathlib.Core.Path.{refl, ap}
+use borrow.Author.Tests.{lt-ltb, le-ltb}
+use mathlib.Core.Bool.{_&&_}
+use mathlib.Core.Logic.{⊎-elim}
+use mathlib.Core.Path.{refl, ap, ap₂}
 use Prim.Native.Nat.{_-_}
 use Rattle.model.specs.Lowest.{isSome}
 use Rattle.dayfile.proofs.Search.{Searching, search-first, search-on, search-hit, search-end}
@@ -10,30 +13,36 @@ use Rattle.marker.proofs.waste.wasted.Statement.{statement}
 use Rattle.marker.proofs.waste.wasted.Tie as tie
 
 abbrev Inv-loop : tie.InvT-loop
-Inv-loop caps sheet supplies seats windows window₀ window = Searching (wastes caps sheet supplies seats) windows windows window
+Inv-loop caps supplies seats windows placed cells window₀ window =
+    Searching (wastes cells caps placed supplies seats) windows windows window
 
 abbrev μ-loop : tie.MeasureT-loop
-μ-loop caps sheet supplies seats windows window₀ window = windows - window
-
-loop-holds : tie.Need-loop-holds Inv-loop μ-loop
-loop-holds c = search-first refl
+μ-loop caps supplies seats windows placed cells window₀ window = windows - window
 
 returns : tie.Need-returns Inv-loop μ-loop
 returns c =
     let k = c .before .before .before in
-    let l = k .before .before in
-    let found = at-line (k .seat-left .ensures) (c .before .seat .given .1) in
-    wasted-at _ _ _ _ _ (search-hit (l .loop .inv) (k .before .loop-test .taken) (ap isSome found)) (k .before .loop-test .taken) found
+    let test = k .before .before .before in
+    let l = test .before in
+    let grid = l .before .before in
+    let found = at-line (k .seat-below .ensures) (c .before .seat .given .1) in
+    let here = search-hit (l .before .loop .inv) (l .loop-test .taken) (ap₂ _&&_ (lt-ltb _ _ (test .if1 .taken)) (ap isSome found)) in
+    wasted-at _ _ _ (grid .before .placed .result) (grid .before .placed .ensures) _ (grid .to-grid .ensures) _ _ here (l .loop-test .taken) found
 
 loop-again : tie.Need-loop-again Inv-loop μ-loop
 loop-again c =
-    let k = c .before .before in
-    let l = k .before .before in
-    let full = no-line (k .seat-left .ensures) (c .enum-told .given .1) in
-    search-on (l .loop .inv) (k .before .loop-test .taken) (ap isSome full)
+    let l = c .before in
+    search-on (l .before .loop .inv) (l .loop-test .taken)
+    (⊎-elim
+    (λ t. ap₂ _&&_ (lt-ltb _ _ (t .0 .taken)) (ap isSome (no-line (t .3 .ensures) (t .5 .given .1))))
+    (λ t. rw (le-ltb _ _ (t .left)) refl)
+    (c .if1 .came))
 
 returns-2 : tie.Need-returns-2 Inv-loop μ-loop
-returns-2 c = nowhere _ _ _ (search-end (c .before .loop .inv) (c .loop-test .left))
+returns-2 c =
+    let grid = c .before .before in
+    nowhere _ _ _ (grid .before .placed .result) (grid .before .placed .ensures) _ (grid .to-grid .ensures)
+    (search-end (c .before .loop .inv) (c .loop-test .left))
 
 pub wasted-spec : {M : Type 1} → statement M
 wasted-spec =
@@ -41,8 +50,15 @@ wasted-spec =
     (tie.spec
     Inv-loop
     μ-loop
-    loop-holds
+    (λ c κs. search needs)
+    (λ c κs. search needs)
+    (λ c. search-first refl)
     (λ c. search needs)
+    (λ c. search needs)
+    (λ c. search needs)
+    (λ c. search needs)
+    (λ c. search needs)
+    (λ c κs. search needs)
     (λ c. search needs)
     returns
     (λ c. search needs)
