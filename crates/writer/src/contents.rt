@@ -2,6 +2,7 @@
 ghost use mathlib.Core.Path.{_≡_};
 ghost use Prim.Native.Nat.{_+_, _*_, _<_, _≤_};
 ghost use lib.ListN.{length};
+ghost use Rattle.dayfile.specs.Layout.{contentsEnd};
 ghost use Rattle.dayfile.specs.Table.{known};
 ghost use Rattle.writer.specs.Stores.{Room, Put, size, entry, entries, sizes, entriesAt, head, slotsOf};
 use super::numbers::put;
@@ -67,6 +68,14 @@ pub fn count_entries(slots: [Slot; KNOWN]) -> usize
         i += 1;
     }
     n
+}
+
+// Where the first body starts.
+pub fn first_body(book: Book, has_sheet: bool) -> usize
+    requires { ⌜ (book .seats ≤ 32) × (book .windows ≤ 24) ⌝ }
+    ensures { λ r. ⌜ (r ≡ contentsEnd (entries (slotsOf book «has_sheet»))) × (r ≤ contentsEnd known) ⌝ }
+{
+    2 + 6 * count_entries(slots_of(book, has_sheet))
 }
 
 // How many fields all bodies have.

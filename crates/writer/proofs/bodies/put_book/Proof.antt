@@ -30,11 +30,4 @@ returns c =
 pub put-book-spec : {M : Type 1} → statement M
 put-book-spec =
     tie.close
-    (tie.spec
-    (λ c. search needs)
-    put-all-requires
-    (λ c. search needs)
-    put-all-requires-2
-    put-rows-requires
-    (λ c. search needs)
-    returns)
+    (tie.spec (λ c. search needs) put-all-requires (λ c. search needs) put-all-requires-2 put-rows-requires (λ c. search needs) returns)

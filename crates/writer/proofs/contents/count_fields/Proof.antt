@@ -31,15 +31,5 @@ returns c = let l = c .before in total-end (l .loop .inv) (omega (arith, l .befo
 pub count-fields-spec : {M : Type 1} → statement M
 count-fields-spec =
     tie.close
-    (tie.spec
-    Inv-loop
-    μ-loop
-    loop-holds
-    (λ c. search needs)
-    (λ c. search needs)
-    (λ c κs. search needs)
-    add-n
-    (λ c. search needs)
-    (λ c. search needs)
-    loop-again
-    returns)
+    (tie.spec Inv-loop μ-loop loop-holds (λ c. search needs) (λ c. search needs) (λ c κs. search needs) add-n (λ c. search needs)
+    (λ c. search needs) loop-again returns)

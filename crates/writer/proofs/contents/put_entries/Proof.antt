@@ -52,18 +52,5 @@ returns c = let l = c .before in entered-end (l .loop .inv) (omega (arith, l .be
 pub put-entries-spec : {M : Type 1} → statement M
 put-entries-spec =
     tie.close
-    (tie.spec
-    Inv-loop
-    μ-loop
-    loop-holds
-    (λ c. search needs)
-    (λ c. search needs)
-    put-entry-requires
-    (λ c κs. search needs)
-    mul-body
-    add-body
-    (λ c. search needs)
-    (λ c. search needs)
-    loop-again
-    same-length
-    returns)
+    (tie.spec Inv-loop μ-loop loop-holds (λ c. search needs) (λ c. search needs) put-entry-requires (λ c κs. search needs) mul-body
+    add-body (λ c. search needs) (λ c. search needs) loop-again same-length returns)

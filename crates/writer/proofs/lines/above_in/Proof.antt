@@ -78,21 +78,6 @@ returns-2 c =
 pub above-in-spec : {M : Type 1} → statement M
 above-in-spec =
     tie.close
-    (tie.spec
-    Inv-loop
-    μ-loop
-    loop-holds
-    (λ c. search needs)
-    (λ c. search needs)
-    slice-aggregate-outside-in
-    mul-outside-in
-    mul-outside-in-2
-    add-outside-in
-    outside-in-requires
-    (λ c. search needs)
-    returns
-    (λ c. search needs)
-    (λ c. search needs)
-    (λ c. search needs)
-    loop-again
-    returns-2)
+    (tie.spec Inv-loop μ-loop loop-holds (λ c. search needs) (λ c. search needs) slice-aggregate-outside-in mul-outside-in
+    mul-outside-in-2 add-outside-in outside-in-requires (λ c. search needs) returns (λ c. search needs) (λ c. search needs)
+    (λ c. search needs) loop-again returns-2)
