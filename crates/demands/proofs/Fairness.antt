@@ -23,14 +23,14 @@ use Rattle.dayfile.proofs.Lines.{none-holds}
 use Rattle.marker.specs.declared.Marking.{Marking}
 use Rattle.marker.specs.declared.Marking.the-variants.{Refused, Improvable, Tied, Settled}
 use Rattle.marker.specs.declared.Marking.the-variants as variants
-use Rattle.marker.specs.Marking.{sheetIn, told, results, Passing, Marks}
+use Rattle.marker.specs.Marking.{sheetIn, told, Passing, Marks}
 use Rattle.marker.proofs.Taken.{book-is, sheet-in, none-hold}
 use Rattle.marker.proofs.Theorems as marker
 use Rattle.planner.specs.Planning.{Plans}
 use Rattle.planner.proofs.Theorems as planner
 use Rattle.demands.specs.Demands.{Marked, Improves, PlannedFile}
 use Rattle.demands.proofs.Files.{taken}
-use Rattle.demands.proofs.Marked.{marked-settled}
+use Rattle.demands.proofs.Marked.{marked-4}
 
 -- equal answers have equal results
 result-of : (x y : Result) → answer x ≡ answer y → x ≡ y
@@ -123,5 +123,4 @@ module _ (file before after : List ℕ) (n : ℕ) (plans : Plans file before aft
       let sheet = planner.planned file before after (Whole n) plans planned-free in
       let back = planner.reads-back file before after (Whole n) plans planned-free in
       let whole = planner.theFile file before after (Whole n) plans planned-free in
-      marker.marks-says whole moves moves′ r (rw the-planned at marks)
-      ∙ ap results (marked-settled whole (bookOf file) (sheet .sheet) back (sheet .settled) (length moves) long)
+      marked-4 whole (bookOf file) (sheet .sheet) back (sheet .settled) moves moves′ r long (rw the-planned at marks)
