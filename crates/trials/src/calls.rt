@@ -61,7 +61,7 @@ pub fn see_mark(file: &[u8], first: Check, moves: &mut [u8]) -> Seen {
 
 // Whether a file gets mark 4.
 pub fn settled(file: &[u8]) -> bool {
-    let mut moves = [255u8; 93];
+    let mut moves = [255u8; MOVES_ROOM];
     match marker::mark(file, &mut moves) {
         Marking::Refused { number: _, at: _ } => false,
         Marking::Wasteful { window: _, seat: _ } => false,
@@ -92,7 +92,7 @@ fn begins(text: &[u8], letter: u8) -> bool {
 // Whether the listing begins as it must, with `refused` or `seats`.
 pub fn lists(file: &[u8], refused: bool) -> bool {
     let mut out = [255u8; 3460];
-    let Written::Whole { length } = report::listing(file, &mut out) else {
+    let Written::Whole { length } = listing::listing(file, &mut out) else {
         return false;
     };
     let letter = if refused { b'r' } else { b's' };
@@ -102,7 +102,7 @@ pub fn lists(file: &[u8], refused: bool) -> bool {
 // Whether the listing refuses a buffer that is a byte short.
 pub fn lists_short(file: &[u8]) -> bool {
     let mut out = [255u8; 3452];
-    let Written::Refused { number, at } = report::listing(file, &mut out) else {
+    let Written::Refused { number, at } = listing::listing(file, &mut out) else {
         return false;
     };
     number == 16 && at == 3453 && all_from(&out, 0, 255)

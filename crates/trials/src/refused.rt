@@ -109,7 +109,7 @@ fn mark_with(file: &[u8], first: Check, short: bool) -> Seen {
         let mut few = [255u8; 92];
         return see_mark(file, first, &mut few);
     }
-    let mut moves = [255u8; 93];
+    let mut moves = [255u8; MOVES_ROOM];
     see_mark(file, first, &mut moves)
 }
 

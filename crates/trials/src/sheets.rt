@@ -119,7 +119,7 @@ fn judge_sheet(
     caps: [[u16; 24]; 32],
     cells: [u16; 12],
 ) -> Tally {
-    let mut moves = [255u8; 93];
+    let mut moves = [255u8; MOVES_ROOM];
     let m = mark_cells(book, caps, cells, &mut moves);
     let right = rightly_marked(s, best, cells, m, &moves);
     tally.marked(m, right)
@@ -148,7 +148,7 @@ fn rightly_planned(s: Small, best: Best, file: &[u8]) -> bool {
     let read = reader::read(file);
     let day = read.day;
     let cells = cells_of(day.sheet.to_grid());
-    let mut moves = [255u8; 93];
+    let mut moves = [255u8; MOVES_ROOM];
     let m = marker::mark(file, &mut moves);
     rightly_settled(s, best, cells) && rightly_marked(s, best, cells, m, &moves)
 }
