@@ -87,6 +87,7 @@ fn check_values(book: Book, caps: Sheet, at: usize) -> Check
 
 // The lines of the parts that may be missing: paper 01 has none.
 fn check_options(_book: Book, _has_sheet: bool) -> Check
+    requires { ⌜ («_book» .seats ≤ 32) × («_book» .windows ≤ 24) ⌝ }
     ensures { λ r. ⌜ ((d : Day) → Of «_book» «_has_sheet» d → refused r ≡ firstOf (optionLines (fileIn d))) ⌝ }
 {
     Check::Sound

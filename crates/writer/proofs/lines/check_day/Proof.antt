@@ -35,6 +35,12 @@ returns-2 c =
     sym (stop-values d (passes (k .check-counts .ensures d refl) (t .enum-told .given .1))
     (refuses (v .check-values .ensures d refl refl at) (c .before .number2 .given .1)))
 
+check-options-requires : tie.Need-check-options-requires
+check-options-requires c κs =
+    let t = c .before .before .before .before in
+    let k = t .before .before in
+    let d = k .before .before .args .day in counts-pass d (passes (k .check-counts .ensures d refl) (t .enum-told .given .1))
+
 returns-3 : tie.Need-returns-3
 returns-3 c =
     let v = c .before .before .before in
@@ -49,4 +55,4 @@ pub check-day-spec : {M : Type 1} → statement M
 check-day-spec =
     tie.close
     (tie.spec (λ c κs. search needs) (λ c. search needs) returns (λ c. search needs) first-body-requires check-values-requires
-    (λ c. search needs) returns-2 (λ c. search needs) (λ c κs. search needs) returns-3)
+    (λ c. search needs) returns-2 (λ c. search needs) check-options-requires returns-3)
