@@ -1,5 +1,5 @@
-// A quick look at a sheet in memory: nearly every sheet is lawful, and then none of the lines 13 to 15 holds. A sheet that is not is left to
-// the lines, which say where.
+// A quick look at a sheet in memory: nearly every sheet is lawful, and then none of the lines 13 to 15 holds. A sheet that is not is left
+// to the lines, which say where.
 ghost use mathlib.Core.Path.{_≡_};
 ghost use mathlib.Core.Bool.{true};
 ghost use Prim.Native.Nat.{ℕ, _≤_, _<_};
