@@ -11,6 +11,7 @@ use dayfile::Written;
 use oracle::Small;
 use oracle::memory::book_of;
 use oracle::memory::grid_of;
+use sheet::Caps;
 
 // A byte, if there is one at that offset.
 fn set(file: &mut [u8], at: usize, value: u8) {
@@ -160,7 +161,7 @@ pub fn damage_book(state: &mut u32, s: Small) -> Book {
 }
 
 // Caps of which one may be out of its range.
-pub fn damage_caps(state: &mut u32, s: Small) -> [[u16; 24]; 32] {
+pub fn damage_caps(state: &mut u32, s: Small) -> Caps {
     let mut cells = s.caps;
     if below(state, 4) == 0 {
         let k = below(state, 12) as usize;

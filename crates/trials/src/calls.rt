@@ -4,8 +4,10 @@ use dayfile::Check;
 use dayfile::Day;
 use dayfile::Written;
 use marker::Marking;
+use marker::lines::MOVES_ROOM;
 use say::all_from;
 use say::front;
+use sheet::Caps;
 
 // What a call made of its input: a refusal's number, 0 where there was none, and whether that was right.
 pub struct Seen {
@@ -122,7 +124,7 @@ pub fn written_again(file: &[u8], first: Check) -> bool {
 }
 
 // The writer's answer. What it writes, the reader takes.
-pub fn see_write(book: Book, caps: [[u16; 24]; 32], out: &mut [u8]) -> Seen {
+pub fn see_write(book: Book, caps: Caps, out: &mut [u8]) -> Seen {
     match writer::write(out, Day::new(book, caps, true, caps)) {
         Written::Refused { number, at: _ } => Seen {
             number,

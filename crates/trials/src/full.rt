@@ -12,6 +12,7 @@ use draws::full::draw_caps;
 use draws::full::draw_most;
 use say::all_from;
 use say::front;
+use sheet::Caps;
 
 pub struct Planned {
     pub books: u32,
@@ -44,7 +45,7 @@ fn rightly_planned(file: &[u8]) -> bool {
     settled(file) && check::same(front(&again, length), file)
 }
 
-fn judge_book(book: Book, caps: [[u16; 24]; 32]) -> bool {
+fn judge_book(book: Book, caps: Caps) -> bool {
     let mut file = [0u8; LONGEST_FILE];
     let day = Day::new(book, caps, false, caps);
     let Written::Whole { length } = writer::write(&mut file, day) else {

@@ -17,9 +17,11 @@ use draws::damage::damage_book;
 use draws::damage::damage_caps;
 use draws::damage::draw_file;
 use draws::small::draw_small;
+use marker::lines::MOVES_ROOM;
 use say::front;
 use say::say_number;
 use say::say_text;
+use sheet::Caps;
 
 // Counts by the number of the refusal, at 0 those that were taken.
 pub struct Refusals {
@@ -124,7 +126,7 @@ fn plan_with(file: &[u8], first: Check, short: bool) -> Seen {
 }
 
 // The writer's answer with a buffer of 60 bytes, or one for any file.
-fn write_with(book: Book, caps: [[u16; 24]; 32], short: bool) -> Seen {
+fn write_with(book: Book, caps: Caps, short: bool) -> Seen {
     if short {
         let mut few = [255u8; 60];
         return see_write(book, caps, &mut few);

@@ -5,6 +5,7 @@ use dayfile::Book;
 use dayfile::Day;
 use dayfile::Written;
 use marker::Marking;
+use marker::lines::MOVES_ROOM;
 use oracle::Small;
 use oracle::memory::book_of;
 use oracle::memory::cells_of;
@@ -21,6 +22,7 @@ use oracle::rules::totals;
 use oracle::rules::wasted;
 use say::all_from;
 use say::front;
+use sheet::Caps;
 
 // No small book has more: 12 cells, and no cap above 3.
 const SHEETS: u32 = 16777216;
@@ -102,7 +104,7 @@ fn rightly_marked(s: Small, best: Best, cells: [u16; 12], m: Marking, moves: &[u
 }
 
 // The mark of a sheet of a book in memory. What the writer refused counts as refusal 0.
-fn mark_cells(book: Book, caps: [[u16; 24]; 32], cells: [u16; 12], moves: &mut [u8]) -> Marking {
+fn mark_cells(book: Book, caps: Caps, cells: [u16; 12], moves: &mut [u8]) -> Marking {
     let mut file = [0u8; 96];
     match writer::write(&mut file, Day::new(book, caps, true, grid_of(cells))) {
         Written::Whole { length } => marker::mark(front(&file, length), moves),
@@ -116,7 +118,7 @@ fn judge_sheet(
     s: Small,
     best: Best,
     book: Book,
-    caps: [[u16; 24]; 32],
+    caps: Caps,
     cells: [u16; 12],
 ) -> Tally {
     let mut moves = [255u8; MOVES_ROOM];

@@ -26,7 +26,8 @@ fn say_buffer(out: &[u8]) {
 // A file is read and, where it is accepted, written again.
 pub fn read(numbers: &[u8], out: &mut [u8]) {
     let reading = reader::read(file_in(numbers));
-    if let Check::Refused { number, at } = reading.check {
+    let check = reading.check;
+    if let Check::Refused { number, at } = check {
         say_refusal(number, at);
         say_text(b"\n");
         return;
