@@ -60,7 +60,7 @@ enum {
 };
 
 /* A book in memory. Seats and windows count from 0 here; a cap or a credit is at [seat][window]. What credits_read gives has 0 in every
- * place that is not used; credits_write looks at used places only. */
+ * place that is not used; credits_write looks at used places only. Later versions add fields at its end alone, so offsets stay. */
 typedef struct {
     size_t seats;
     size_t windows;

@@ -1,100 +1,105 @@
--- What crosses to C: for each case of an answer paper 01's numbers and values, and the contract of each exported call. A refusal is its
--- number and its offset, both 0 where there is none; at a refusal every other number is 0.
+-- What crosses to C: each answer in paper 01's numbers and values, and the contract of each exported call. A refusal is its number and its
+-- offset, both 0 where there is none; at a refusal every other number is 0.
 use mathlib.Core.Bool.{Bool, true, false, not}
-use mathlib.Core.List.{List, []}
-use mathlib.Core.Option.{Option, none}
+use mathlib.Core.List.{List}
 use mathlib.Core.Path.{_≡_}
 use Prim.Native.Nat.{ℕ}
 use lib.Dec.{eqb}
-use lib.ListN.{length}
-use Rattle.model.specs.Lowest.{isSome}
-use Rattle.model.specs.Book.{Book, Grid}
-use Rattle.model.specs.Marks.{Result}
-use Rattle.dayfile.specs.Layout.{bookOf}
-use Rattle.dayfile.specs.Table.{writeLines}
-use Rattle.dayfile.specs.Outcome.{Outcome, turnedAway, answer, outcome, readFile}
-use Rattle.dayfile.specs.Memory.{Holds, held, heldIf, fileIn, written, after}
+use Rattle.dayfile.specs.Outcome.{Outcome, turnedAway, answer}
+use Rattle.dayfile.specs.Memory.{written, Reads, WritesDay}
+use Rattle.dayfile.specs.declared.Check as Check
+use Rattle.dayfile.specs.declared.Day.{Day}
+use Rattle.dayfile.specs.declared.Reading.{Reading}
 use Rattle.dayfile.specs.declared.Written.{Written}
-use Rattle.sheet.specs.Sheets.{gridOf}
-use Rattle.marker.specs.Marking as marking
-use Rattle.marker.specs.Marking.{sheetIn, markFile, results}
-use Rattle.planner.specs.Planning as planning
-use Rattle.planner.specs.Planning.{planFile}
-use Rattle.report.specs.Report.{Lists}
+use Rattle.marker.specs.declared.Marking.{Marking}
+use Rattle.marker.specs.declared.Numbers.{Numbers}
+use Rattle.marker.specs.Marking.{told, numbersOf, Marks}
+use Rattle.planner.specs.Planning.{Plans}
+use Rattle.listing.specs.Calls.{Lists}
 use Rattle.credits.specs.declared.CreditsBook.{CreditsBook}
 use Rattle.credits.specs.declared.ReadResult.{ReadResult}
 use Rattle.credits.specs.declared.MarkResult.{MarkResult}
 use Rattle.credits.specs.declared.WriteResult.{WriteResult}
 
--- ---- read
+-- the contract of an exported call: the result is, in numbers, an answer that meets the contract of the call behind it
+pub record InNumbers {A R : Type 0} (numbers : A → R) (Contract : A → Type 0) (r : R) : Type 0 where
+  pub answers : A
+  pub meets : Contract answers
+  pub says : r ≡ numbers answers
+
+-- ---- books
 
 abbrev pub flag : Bool → ℕ
 flag true = 1
 flag false = 0
 
--- the book b and its sheet or its absence stand in c, and unused numbers are 0
-pub record Keeps (b : Book) (s : Option Grid) (c : CreditsBook) : Type 0 where
-  pub counts-are : Holds b (c .counts)
-  pub caps-are : gridOf (c .caps) ≡ held (b .caps)
-  pub has-sheet-is : c .«has_sheet» ≡ flag (isSome s)
-  pub sheet-is : gridOf (c .sheet) ≡ heldIf s
+-- a day, as the flat struct of C
+abbrev pub bookFrom : Day → CreditsBook
+bookFrom d =
+    record {
+      seats = d .book .seats;
+      windows = d .book .windows;
+      classes = d .book .classes;
+      supplies = d .book .supplies;
+      caps = d .caps;
+      «has_sheet» = flag (d .«has_sheet»);
+      sheet = d .sheet;
+    }
 
--- no seats and no windows: where it is kept all numbers are 0
-abbrev pub noBook : Book
-noBook = record { classes = []; supplies = []; caps = [] }
+-- a book that was handed in; its sheet counts unless has_sheet is 0
+abbrev pub dayFrom : CreditsBook → Day
+dayFrom c =
+    record {
+      book = record { seats = c .seats; windows = c .windows; classes = c .classes; supplies = c .supplies };
+      caps = c .caps;
+      «has_sheet» = not (eqb (c .«has_sheet») 0);
+      sheet = c .sheet;
+    }
 
-abbrev pub Reads : Outcome (Book × Option Grid) → ReadResult → Type 0
-Reads (turnedAway q) r = (r .refusal ≡ q .number) × (r .offset ≡ q .at) × Keeps noBook none (r .book)
-Reads (answer p) r = (r .refusal ≡ 0) × (r .offset ≡ 0) × Keeps (p .0) (p .1) (r .book)
+-- ---- answers in numbers
 
--- the contract of credits_read
-abbrev pub ReadsAs : (file : List ℕ) → ReadResult → Type 0
-ReadsAs file r = Reads (readFile file) r
+-- a reading: the refusal, and the day
+abbrev pub readAs : Check.Check → Day → ReadResult
+readAs (Check.the-variants.Refused n p) d = record { refusal = n; offset = p; book = bookFrom d }
+readAs Check.the-variants.Sound d = record { refusal = 0; offset = 0; book = bookFrom d }
 
--- ---- write
+abbrev pub readNumbers : Reading → ReadResult
+readNumbers r = readAs (r .check) (r .day)
 
 -- what a call wrote: its length
-abbrev pub writeResult : Outcome ℕ → WriteResult
-writeResult (turnedAway q) = record { refusal = q .number; offset = q .at; length = 0 }
-writeResult (answer n) = record { refusal = 0; offset = 0; length = n }
+abbrev pub lengthAs : Outcome ℕ → WriteResult
+lengthAs (turnedAway q) = record { refusal = q .number; offset = q .at; length = 0 }
+lengthAs (answer n) = record { refusal = 0; offset = 0; length = n }
 
--- the file of a book that was handed in; its sheet counts unless has_sheet is 0
-abbrev pub fileFor : CreditsBook → List ℕ
-fileFor c = fileIn (c .counts) (gridOf (c .caps)) (not (eqb (c .«has_sheet») 0)) (gridOf (c .sheet))
+abbrev pub writeNumbers : Written → WriteResult
+writeNumbers w = lengthAs (written w)
 
--- the length of that file, or a refusal, where the output buffer has `room` bytes
-abbrev pub writeFile : CreditsBook → ℕ → Outcome ℕ
-writeFile c room = outcome (writeLines (fileFor c) room) (length (fileFor c))
+-- the numbers of the marker's answer
+abbrev pub markAs : Numbers → MarkResult
+markAs n =
+    record { refusal = n .refusal; offset = n .offset; mark = n .mark; window = n .window; seat = n .seat; moves = n .moves }
 
--- the contract of credits_write
-pub record WritesAs (c : CreditsBook) (before end : List ℕ) (r : WriteResult) : Type 0 where
-  pub says : r ≡ writeResult (writeFile c (length before))
-  pub buffer : end ≡ after (writeFile c (length before)) (fileFor c) before
+abbrev pub markNumbers : Marking → MarkResult
+markNumbers m = markAs (numbersOf (told m))
 
--- ---- mark
+-- ---- the contracts
 
--- mark, window, seat and number of moves as paper 01 has them
-abbrev pub markResult : Outcome Result → MarkResult
-markResult (turnedAway q) = record { refusal = q .number; offset = q .at; mark = 0; window = 0; seat = 0; moves = 0 }
-markResult (answer m) =
-    record { refusal = 0; offset = 0; mark = m .mark; window = m .window; seat = m .seat; moves = m .moves }
+-- credits_read
+abbrev pub ReadsAs : (file : List ℕ) → ReadResult → Type 0
+ReadsAs file r = InNumbers readNumbers (Reads file) r
 
--- the contract of credits_mark
-pub record MarksAs (file before end : List ℕ) (r : MarkResult) : Type 0 where
-  pub says : r ≡ markResult (results (markFile file (length before)))
-  pub buffer : marking.BufferAfter (bookOf file) (sheetIn file) (markFile file (length before)) before end
+-- credits_write
+abbrev pub WritesAs : CreditsBook → (before after : List ℕ) → WriteResult → Type 0
+WritesAs c before after r = InNumbers writeNumbers (WritesDay (dayFrom c) before after) r
 
--- ---- plan
+-- credits_mark
+abbrev pub MarksAs : (file before after : List ℕ) → MarkResult → Type 0
+MarksAs file before after r = InNumbers markNumbers (Marks file before after) r
 
--- the contract of credits_plan
-pub record PlansAs (file before end : List ℕ) (r : WriteResult) : Type 0 where
-  pub says : r ≡ writeResult (planFile file (length before))
-  pub buffer : planning.BufferAfter (bookOf file) (planFile file (length before)) before end
+-- credits_plan
+abbrev pub PlansAs : (file before after : List ℕ) → WriteResult → Type 0
+PlansAs file before after r = InNumbers writeNumbers (Plans file before after) r
 
--- ---- listing
-
--- the contract of credits_listing: that of the listing, in numbers
-pub record ListsAs (file before end : List ℕ) (r : WriteResult) : Type 0 where
-  pub answers : Written
-  pub lists : Lists file before end answers
-  pub says : r ≡ writeResult (written answers)
+-- credits_listing
+abbrev pub ListsAs : (file before after : List ℕ) → WriteResult → Type 0
+ListsAs file before after r = InNumbers writeNumbers (Lists file before after) r

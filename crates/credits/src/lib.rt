@@ -1,23 +1,35 @@
 // The library for C, Rust and Python: every public call, exported. What crosses is numbers, slices and #[repr(C)] structs of numbers, laid
 // out as include/credits.h says. The contracts are in specs/Numbers.antt.
-ghost use mathlib.Core.Option.{none};
 ghost use mathlib.Core.Path.{_≡_};
-ghost use Prim.Native.Nat.{_≤_};
-ghost use Rattle.dayfile.specs.Layout.{bookOf, sheetOf};
-ghost use Rattle.dayfile.specs.Memory.{written};
 ghost use Rattle.marker.specs.Marking.{told};
-ghost use Rattle.credits.specs.Numbers.{Keeps, noBook, ReadsAs, writeResult, WritesAs, markResult, MarksAs, PlansAs, ListsAs};
+ghost use Rattle.credits.specs.Numbers.{
+  bookFrom,
+  dayFrom,
+  readNumbers,
+  writeNumbers,
+  markNumbers,
+  ReadsAs,
+  WritesAs,
+  MarksAs,
+  PlansAs,
+  ListsAs,
+};
 ghost use Rattle.credits.specs.Steps.{Small};
 use dayfile::Book;
 use dayfile::Check;
+use dayfile::Day;
+use dayfile::Reading;
 use dayfile::Written;
 use marker::Marking;
 use sheet::Sheet;
 
-// A book with its caps, and a sheet unless has_sheet is 0.
+// A book with its caps, and a sheet unless has_sheet is 0. Later fields go to its end, so that offsets stay.
 #[repr(C)]
 pub struct CreditsBook {
-    pub counts: Book,
+    pub seats: usize,
+    pub windows: usize,
+    pub classes: [u16; 32],
+    pub supplies: [u16; 24],
     pub caps: Sheet,
     pub has_sheet: u32,
     pub sheet: Sheet,
@@ -51,107 +63,108 @@ pub struct MarkResult {
 }
 
 impl ReadResult {
-    fn new(refusal: u8, offset: usize, book: CreditsBook) -> ReadResult
-        ensures { λ r. ⌜ r ≡ record { refusal = refusal; offset = offset; book = book } ⌝ }
+    // What the reader says, in numbers.
+    fn of(r: Reading) -> ReadResult
+        ensures { λ s. ⌜ s ≡ readNumbers r ⌝ }
     {
-        ReadResult {
-            refusal: refusal as u32,
-            offset,
-            book,
+        let check = r.check;
+        let day = r.day;
+        let book = CreditsBook::of(day);
+        match check {
+            Check::Refused { number, at } => ReadResult {
+                refusal: number as u32,
+                offset: at,
+                book,
+            },
+            Check::Sound => ReadResult {
+                refusal: 0,
+                offset: 0,
+                book,
+            },
         }
     }
 }
 
 impl WriteResult {
-    fn new(refusal: u8, offset: usize, length: usize) -> WriteResult
-        ensures { λ r. ⌜ r ≡ record { refusal = refusal; offset = offset; length = length } ⌝ }
-    {
-        WriteResult {
-            refusal: refusal as u32,
-            offset,
-            length,
-        }
-    }
-
     // What a call wrote, in numbers.
     fn of(w: Written) -> WriteResult
-        ensures { λ r. ⌜ r ≡ writeResult (written w) ⌝ }
+        ensures { λ r. ⌜ r ≡ writeNumbers w ⌝ }
     {
         match w {
-            Written::Refused { number, at } => WriteResult::new(number, at, 0),
-            Written::Whole { length } => WriteResult::new(0, 0, length),
+            Written::Refused { number, at } => WriteResult {
+                refusal: number as u32,
+                offset: at,
+                length: 0,
+            },
+            Written::Whole { length } => WriteResult {
+                refusal: 0,
+                offset: 0,
+                length,
+            },
         }
     }
 }
 
 impl MarkResult {
-    fn new(
-        refusal: u8,
-        offset: usize,
-        mark: u32,
-        window: usize,
-        seat: usize,
-        moves: usize,
-    ) -> MarkResult
-        requires { ⌜ (window ≤ 32) × (seat ≤ 32) × (moves ≤ 32) ⌝ }
-        ensures { λ r. ⌜ r ≡ record { refusal = refusal; offset = offset; mark = mark; window = window; seat = seat; moves = moves } ⌝ }
-    {
-        MarkResult {
-            refusal: refusal as u32,
-            offset,
-            mark,
-            window: window as u32,
-            seat: seat as u32,
-            moves: moves as u32,
-        }
-    }
-
     // What the marker says, in numbers.
     fn of(m: Marking) -> MarkResult
         requires { ⌜ Small (told m) ⌝ }
-        ensures { λ r. ⌜ r ≡ markResult (told m) ⌝ }
+        ensures { λ r. ⌜ r ≡ markNumbers m ⌝ }
     {
-        match m {
-            Marking::Refused { number, at } => MarkResult::new(number, at, 0, 0, 0, 0),
-            Marking::Wasteful { window, seat } => MarkResult::new(0, 0, 1, window, seat, 0),
-            Marking::Improvable { moves } => MarkResult::new(0, 0, 2, 0, 0, moves),
-            Marking::Tied { moves } => MarkResult::new(0, 0, 3, 0, 0, moves),
-            Marking::Settled => MarkResult::new(0, 0, 4, 0, 0, 0),
+        let n = m.numbers();
+        MarkResult {
+            refusal: n.refusal as u32,
+            offset: n.offset,
+            mark: n.mark as u32,
+            window: n.window as u32,
+            seat: n.seat as u32,
+            moves: n.moves as u32,
         }
     }
 }
 
-// A book with no seats, no windows and no sheet: all numbers are 0.
-fn no_book() -> CreditsBook
-    ensures { λ r. ⌜ Keeps noBook none r ⌝ }
-{
-    let zeros = Sheet::from_grid([[0u16; 24]; 32]);
-    CreditsBook {
-        counts: Book {
-            seats: 0,
-            windows: 0,
-            classes: [0u16; 32],
-            supplies: [0u16; 24],
-        },
-        caps: zeros,
-        has_sheet: 0,
-        sheet: zeros,
+impl CreditsBook {
+    // A day as the flat struct.
+    fn of(day: Day) -> CreditsBook
+        ensures { λ r. ⌜ r ≡ bookFrom day ⌝ }
+    {
+        let book = day.book;
+        let classes = book.classes;
+        let supplies = book.supplies;
+        let caps = day.caps;
+        let sheet = day.sheet;
+        let has_sheet = if day.has_sheet { 1u32 } else { 0u32 };
+        CreditsBook {
+            seats: book.seats,
+            windows: book.windows,
+            classes,
+            supplies,
+            caps,
+            has_sheet,
+            sheet,
+        }
     }
-}
 
-// The book that a file holds.
-fn book_of(file: &[u8]) -> CreditsBook
-    ensures { λ r. ⌜ Keeps (bookOf (now (file .entry))) (sheetOf (now (file .entry))) r ⌝ }
-{
-    let counts = reader::read_book(file);
-    let caps = Sheet::from_grid(reader::read_caps(file));
-    let sheet = Sheet::from_grid(reader::read_sheet(file));
-    let has_sheet = if reader::has_sheet(file) { 1u32 } else { 0u32 };
-    CreditsBook {
-        counts,
-        caps,
-        has_sheet,
-        sheet,
+    // The day that was handed in.
+    fn day(self) -> Day
+        ensures { λ r. ⌜ r ≡ dayFrom self ⌝ }
+    {
+        let classes = self.classes;
+        let supplies = self.supplies;
+        let caps = self.caps;
+        let sheet = self.sheet;
+        let book = Book {
+            seats: self.seats,
+            windows: self.windows,
+            classes,
+            supplies,
+        };
+        Day {
+            book,
+            caps,
+            has_sheet: self.has_sheet != 0,
+            sheet,
+        }
     }
 }
 
@@ -162,10 +175,7 @@ fn book_of(file: &[u8]) -> CreditsBook
 pub extern "C" fn credits_read(file: &[u8]) -> ReadResult
     ensures { λ r. ⌜ ReadsAs (now (file .entry)) r ⌝ }
 {
-    if let Check::Refused { number, at } = reader::read_check(file) {
-        return ReadResult::new(number, at, no_book());
-    }
-    ReadResult::new(0, 0, book_of(file))
+    ReadResult::of(reader::read(file))
 }
 
 // The file of a book, to the front of the buffer.
@@ -173,16 +183,7 @@ pub extern "C" fn credits_read(file: &[u8]) -> ReadResult
 pub extern "C" fn credits_write(book: CreditsBook, out: &mut [u8]) -> WriteResult
     ensures { λ r. ⌜ WritesAs book (now (out .entry)) (now (out .exit)) r ⌝ }
 {
-    let counts = book.counts;
-    let caps = book.caps;
-    let sheet = book.sheet;
-    WriteResult::of(writer::write(
-        out,
-        counts,
-        caps.to_grid(),
-        book.has_sheet != 0,
-        sheet.to_grid(),
-    ))
+    WriteResult::of(writer::write(out, book.day()))
 }
 
 // The mark of a file's sheet; the chain of marks 2 and 3, to the front of the buffer.
@@ -206,5 +207,5 @@ pub extern "C" fn credits_plan(file: &[u8], out: &mut [u8]) -> WriteResult
 pub extern "C" fn credits_listing(file: &[u8], out: &mut [u8]) -> WriteResult
     ensures { λ r. ⌜ ListsAs (now (file .entry)) (now (out .entry)) (now (out .exit)) r ⌝ }
 {
-    WriteResult::of(report::listing(file, out))
+    WriteResult::of(listing::listing(file, out))
 }

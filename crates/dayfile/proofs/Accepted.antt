@@ -10,7 +10,7 @@ use lib.ListN.{length, getD}
 use Rattle.model.specs.Lowest.{andThen}
 use Rattle.model.specs.Book.{Book, Grid, Shaped, cell, seats, windows}
 use Rattle.dayfile.specs.Bounds.{Fit, SheetFit, TwoByte}
-use Rattle.dayfile.specs.Layout.{Bytes, field, start, size, seatsIn, windowsIn, sizeAt, entryOf, gridAt, bookOf, sheetOf}
+use Rattle.dayfile.specs.Layout.{Bytes, field, start, size, seatsIn, windowsIn, sizeAt, entryOf, gridIn, bookOf, sheetOf}
 use Rattle.dayfile.specs.File.{Part, part, flat, optParts, partsOf, assemble, fileOf}
 use Rattle.dayfile.specs.Table.{firstOf, line7, line8, line10, line11, line12, valueLines, writeLines}
 use Rattle.dayfile.proofs.Tests.{low-as, high-as}
@@ -52,24 +52,25 @@ module _ (f : List ℕ) where
   unfolding bookOf
   cap-field i j h k = grid-cell f (start f 2) (seatsIn f) (windowsIn f) i j h k
 
+  grid-fits : (e : ℕ) → Shaped (seats (bookOf f)) (windows (bookOf f)) (gridIn f e)
+  grid-fits e =
+      shaped-as (seatsIn f) (windowsIn f) _ _ (gridIn f e) (sym (seats-are f)) (sym (windows-are f))
+      (grid-shaped f (start f e) (seatsIn f) (windowsIn f))
+
   pub cap-shaped : Shaped (seats (bookOf f)) (windows (bookOf f)) (bookOf f .caps)
   unfolding bookOf
-  cap-shaped =
-      shaped-as (seatsIn f) (windowsIn f) _ _ (gridAt f (start f 2) (seatsIn f) (windowsIn f)) (sym (seats-are f)) (sym (windows-are f))
-      (grid-shaped f (start f 2) (seatsIn f) (windowsIn f))
+  cap-shaped = grid-fits 2
 
-  sheet-shaped : (r : Option ℕ) → SheetFit (bookOf f) (andThen r (λ e. some (gridAt f (start f e) (seatsIn f) (windowsIn f))))
+  sheet-shaped : (r : Option ℕ) → SheetFit (bookOf f) (andThen r (λ e. some (gridIn f e)))
   sheet-shaped none = tt
-  sheet-shaped (some e) =
-      shaped-as (seatsIn f) (windowsIn f) _ _ (gridAt f (start f e) (seatsIn f) (windowsIn f)) (sym (seats-are f)) (sym (windows-are f))
-      (grid-shaped f (start f e) (seatsIn f) (windowsIn f))
+  sheet-shaped (some e) = grid-fits e
 
   pub sheet-fits : SheetFit (bookOf f) (sheetOf f)
   unfolding sheetOf
   sheet-fits = sheet-shaped (entryOf f 4)
 
   sheet-small : Bytes f → (r : Option ℕ)
-      → TwoByte (bookOf f) (andThen r (λ e. some (gridAt f (start f e) (seatsIn f) (windowsIn f))))
+      → TwoByte (bookOf f) (andThen r (λ e. some (gridIn f e)))
   sheet-small by none = tt
   sheet-small by (some e) = λ i j h k.
       let s = seats-are f in

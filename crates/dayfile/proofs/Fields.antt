@@ -9,8 +9,7 @@ use lib.ListN.{length, getD}
 use Rattle.model.specs.Book.{Shaped, cell}
 use Rattle.dayfile.specs.Layout.{Bytes, field, fieldsAt, gridAt}
 use Rattle.dayfile.specs.File.{bytesOf, flat}
-use Rattle.fairness.proofs.Lists.{table-length}
-use Rattle.model.proofs.Grids.{table-at}
+use Rattle.lists.proofs.Tables.{table-length, table-at}
 use Rattle.dayfile.proofs.Tables.{table-run, run, run-same, run-append}
 
 -- ---- bytes that were written

@@ -9,13 +9,12 @@ use native.Mathlib.Omega.{arith}
 use lib.ListN.{length, getD, length-append}
 use Rattle.fairness.specs.Leximin.{table}
 use Rattle.model.specs.Book.{Book, Grid, Shaped, SheetOf, cell, seats, windows}
-use Rattle.dayfile.specs.Bounds.{Fit, SheetFit, TwoByte}
+use Rattle.dayfile.specs.Bounds.{Fit, SheetFit, TwoByte, longestFile}
 use Rattle.dayfile.specs.Layout.{Bytes, contentsEnd}
 use Rattle.dayfile.specs.File.{Part, part, contents, bodies, fieldsOf, flat, flatIf, optPart, optParts, partsOf, assemble, fileOf}
 use Rattle.dayfile.specs.Table.{plannedLength}
 use Rattle.dayfile.specs.Memory.{sizedGrid}
-use Rattle.fairness.proofs.Lists.{table-length}
-use Rattle.model.proofs.Grids.{table-at}
+use Rattle.lists.proofs.Tables.{table-length, table-at}
 use Rattle.dayfile.proofs.Tables.{sized-at, sized-row, sized-shaped}
 use Rattle.dayfile.proofs.Fields.{bytes-small}
 use Rattle.dayfile.proofs.Grids.{flat-length, flat-cell}
@@ -68,7 +67,7 @@ few-entries (some g) = omega arith
 few-cells : (n m : ℕ) → n ≤ 32 → m ≤ 24 → n * m ≤ 768
 few-cells n m h k = let a = mul-le-mul-left n k in let b = mul-le-mul-right 24 h in omega arith
 
-pub file-short : (b : Book) (o : Option Grid) → Fit b → SheetFit b o → length (fileOf b o) ≤ 3210
+pub file-short : (b : Book) (o : Option Grid) → Fit b → SheetFit b o → length (fileOf b o) ≤ longestFile
 file-short b o fit sheet =
     let e = file-length b o in
     let c = flat-length (seats b) (windows b) (b .caps) (fit .cap-shape) in
@@ -159,7 +158,7 @@ module _ (b : Book) (o : Option Grid) (fit : Fit b) (sheet : SheetFit b o) (two 
   file-bytes =
       let ps : List Part = partsOf b o in
       let e = file-size (length ps) ps refl in
-      let l : length (assemble (length ps) ps) ≤ 3210 = file-short b o fit sheet in
+      let l : length (assemble (length ps) ps) ≤ longestFile = file-short b o fit sheet in
       bytes-small (fieldsOf (length ps) ps)
       (small-cons (length ps) (contents (contentsEnd (length ps)) ps ++ bodies ps) (omega arith)
       (small-append (contents (contentsEnd (length ps)) ps) (bodies ps)
@@ -212,7 +211,7 @@ pub long-two-byte : TwoByte longBook (some longSheet)
 long-two-byte i j h k =
     let s = long-seats in let w = long-windows in omega (arith, zero-cell i j (omega arith) (omega arith))
 
-pub long-length : length (fileOf longBook (some longSheet)) ≡ 3210
+pub long-length : length (fileOf longBook (some longSheet)) ≡ longestFile
 long-length =
     let s = long-seats in
     let w = long-windows in

@@ -6,8 +6,8 @@ pub mod Answers
 pub mod Tables
 pub mod Fields
 pub mod Grids
-pub mod Sound
 pub mod Rising
+pub mod Sound
 pub mod Container
 pub mod Optional
 pub mod WrittenReads

@@ -12,8 +12,7 @@ use Rattle.dayfile.specs.Layout.{entriesIn, count, kind, entryOf}
 use Rattle.dayfile.specs.File.{Part, part, optPart, assemble}
 use Rattle.dayfile.specs.Table.{known}
 use Rattle.dayfile.proofs.Container.{nth, count-is, kind-is}
-use Rattle.dayfile.proofs.Sound.{InOrder}
-use Rattle.dayfile.proofs.Rising.{Split, hit, split-hit, miss, split-miss}
+use Rattle.dayfile.proofs.Rising.{InOrder, Split, hit, split-hit, miss, split-miss}
 
 -- ---- the kinds rise from lo on, and all are known
 

@@ -4,7 +4,7 @@ use mathlib.Core.Bool.{Bool, cond}
 use mathlib.Core.List.{List, [], _∷_, _++_}
 use mathlib.Core.Option.{Option, none, some}
 use mathlib.Core.Path.{_≡_, refl, sym, _∙_, ap, ap₂}
-use Prim.Native.Nat.{ℕ, zero, suc, _+_, _-_, _*_, _/_, _≤_, _<_}
+use Prim.Native.Nat.{ℕ, zero, suc, _+_, _-_, _*_, _/_, _<_}
 use native.Mathlib.Decide.{decLt, ℕ-discrete}
 use native.Mathlib.Omega.{arith}
 use lib.Dec.{eqb}
@@ -13,37 +13,31 @@ use borrow.Author.Tests.{ne-eqb, eqb-true}
 use Rattle.model.specs.Lowest.{andThen}
 use Rattle.model.proofs.Lowest.{lowest-some}
 use Rattle.dayfile.specs.Layout.{Bytes, field, count, contentsEnd, kind, start, size, ends, seatsIn, windowsIn, entryOf}
-use Rattle.dayfile.specs.Layout.{fieldsAt, gridAt, bookOf, sheetOf}
+use Rattle.dayfile.specs.Layout.{fieldsAt, gridIn, bookOf, sheetOf}
 use Rattle.dayfile.specs.File.{bytesOf, Part, part, contents, bodies, fieldsOf, assemble, flat, optPart, optParts, flatIf}
 use Rattle.dayfile.specs.File.{partsOf, fileOf}
-use Rattle.dayfile.specs.Table.{within, known}
-use Rattle.dayfile.proofs.Tests.{is-within}
+use Rattle.dayfile.specs.Table.{known}
 use Rattle.dayfile.proofs.Tables.{run, run-length, run-same, run-append}
 use Rattle.dayfile.proofs.Fields.{bytes-fields, fields-run, fields-length, flat-grid}
-use Rattle.dayfile.proofs.Sound.{Sound}
-use Rattle.dayfile.proofs.Rising.{kind-one, kind-two, kind-three, kind-known}
+use Rattle.dayfile.proofs.Sound.{Sound, bodyFields}
+use Rattle.dayfile.proofs.Rising.{kind-one, kind-two, kind-three}
 use Rattle.dayfile.proofs.Rising.{Split, split-first, hit, split-hit, miss, split-miss, split-last}
 
 module _ (f : List ℕ) (s : Sound f) where
   -- ---- every body has a whole number of fields
 
-  grid-size : (e : ℕ) → e < count f → 3 ≤ kind f e → kind f e ≤ 4 → size f e ≡ 2 * (seatsIn f * windowsIn f)
-  grid-size e l h k = s .grids e l (is-within 3 4 (kind f e) h k)
-
-  cap-size : size f 2 ≡ 2 * (seatsIn f * windowsIn f)
-  cap-size =
-      let k = kind-three f (s .order) in
-      let m = s .order .many in grid-size 2 (omega arith) (omega arith) (omega arith)
-
   even : (e : ℕ) → e < count f → size f e ≡ 2 * (size f e / 2)
-  even zero h = let x = s .seats-even in omega arith
-  even (suc zero) h = let x = s .windows-even in omega arith
-  even (suc (suc zero)) h = let x = cap-size in omega arith
-  even (suc (suc (suc i))) h =
-      let e : ℕ = suc (suc (suc i)) in
-      let lo : 4 ≤ kind f e = split-first f (s .order) .above e (omega arith) h in
-      let hi : kind f e ≤ known = kind-known f (s .order) e (omega arith) h in
-      let x = grid-size e h (omega arith) (omega arith) in omega arith
+  even e h = let x = s .sizes e h in omega arith
+
+  -- a body of kind k
+  kind-size : (k e : ℕ) → e < count f → kind f e ≡ k → size f e / 2 ≡ bodyFields f k
+  kind-size k e h q = let x = s .sizes e h in let y = ap (bodyFields f) q in omega arith
+
+  entry-size : (k e : ℕ) → entryOf f k ≡ some e → size f e / 2 ≡ bodyFields f k
+  unfolding entryOf
+  entry-size k e q =
+      let g = lowest-some (count f) (λ j. eqb (kind f j) k) e q in
+      kind-size k e (g .below) (eqb-true (kind f e) k (g .passes))
 
   -- ---- the file is that of its entries' parts
 
@@ -150,12 +144,14 @@ module _ (f : List ℕ) (s : Sound f) where
 
   -- ---- the parts of the book and the sheet are those parts
 
-  cap-part : part 3 (flat (gridAt f (start f 2) (seatsIn f) (windowsIn f))) ≡ piece 2
+  -- a grid's numbers are its body's
+  grid-body : (e : ℕ) → size f e / 2 ≡ seatsIn f * windowsIn f → flat (gridIn f e) ≡ bodyOf e
+  grid-body e q = flat-grid f (start f e) (seatsIn f) (windowsIn f) ∙ ap (fieldsAt f (start f e)) (sym q)
+
+  cap-part : part 3 (flat (gridIn f 2)) ≡ piece 2
   cap-part =
-      let e = cap-size in
-      ap₂ part (sym (kind-three f (s .order)))
-      (flat-grid f (start f 2) (seatsIn f) (windowsIn f)
-      ∙ ap (fieldsAt f (start f 2)) {x = seatsIn f * windowsIn f} {y = size f 2 / 2} (omega arith))
+      let k = kind-three f (s .order) in
+      let m = s .order .many in ap₂ part (sym k) (grid-body 2 (kind-size 3 2 (omega arith) k))
 
   -- the body of a kind, if there is an entry
   abbrev bodyIf : Option ℕ → Option (List ℕ)
@@ -205,30 +201,28 @@ module _ (f : List ℕ) (s : Sound f) where
   unfolding run
   no-more e sp = let q = split-last f (s .order) e sp in ap (run piece e) {x = 0} {y = count f - e} (omega arith)
 
+  -- one kind more in front of those after it
+  peel-as : (e lo : ℕ) (sp : Split f (s .order) e lo) {o : Option (List ℕ)} {rest : List Part}
+      → o ≡ bodyIf (entryOf f lo) → rest ≡ pieces-from (peel e lo sp .next) → optPart lo o ++ rest ≡ pieces-from e
+  peel-as e lo sp p q = ap₂ (λ (o : Option (List ℕ)) (r : List Part). optPart lo o ++ r) p q ∙ sym (peel e lo sp .same)
+
   -- a sheet's numbers are its body's
-  sheet-body : (r : Option ℕ) → entryOf f 4 ≡ r
-      → flatIf (andThen r (λ e. some (gridAt f (start f e) (seatsIn f) (windowsIn f)))) ≡ bodyIf r
-  unfolding entryOf
-  sheet-body none e = refl
-  sheet-body (some k) e =
-      let g = lowest-some (count f) (λ j. eqb (kind f j) 4) k e in
-      let z = s .grids k (g .below) (ap (within 3 4) (eqb-true (kind f k) 4 (g .passes))) in
-      ap some (flat-grid f (start f k) (seatsIn f) (windowsIn f)
-      ∙ ap (fieldsAt f (start f k)) {x = seatsIn f * windowsIn f} {y = size f k / 2} (omega arith))
+  sheet-body : (r : Option ℕ) → entryOf f 4 ≡ r → flatIf (andThen r (λ e. some (gridIn f e))) ≡ bodyIf r
+  sheet-body none q = refl
+  sheet-body (some e) q = ap some (grid-body e (entry-size 4 e q))
 
   tail-is : optParts (sheetOf f) ≡ pieces-from 3
   unfolding optParts sheetOf
   tail-is =
-      let four = peel 3 4 (split-first f (s .order)) in
-      ap (λ (o : Option (List ℕ)). optPart 4 o ++ []) (sheet-body (entryOf f 4) refl)
-      ∙ ap (λ (r : List Part). optPart 4 (bodyIf (entryOf f 4)) ++ r) (no-more (four .next) (four .split))
-      ∙ sym (four .same)
+      let first = split-first f (s .order) in
+      let four = peel 3 4 first in
+      peel-as 3 4 first (sheet-body (entryOf f 4) refl) (no-more (four .next) (four .split))
 
   parts-are : partsOf (bookOf f) (sheetOf f) ≡ run piece 0 (count f)
   unfolding partsOf bookOf run
   parts-are =
       let m = s .order .many in
-      let caps : List ℕ = flat (gridAt f (start f 2) (seatsIn f) (windowsIn f)) in
+      let caps : List ℕ = flat (gridIn f 2) in
       let rest : List Part = part 3 caps ∷ optParts (sheetOf f) in
       ap₂ (λ (a b : ℕ). part a (bodyOf 0) ∷ part b (bodyOf 1) ∷ rest) (sym (kind-one f (s .order))) (sym (kind-two f (s .order)))
       ∙ ap₂ (λ (p : Part) (r : List Part). piece 0 ∷ piece 1 ∷ p ∷ r) cap-part tail-is

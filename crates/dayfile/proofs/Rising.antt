@@ -17,7 +17,11 @@ use Rattle.dayfile.specs.Layout.{count, kind, entryOf}
 use Rattle.dayfile.specs.Table.{within, known, kindRight}
 use Rattle.dayfile.proofs.Tests.{within-low, within-high}
 use Rattle.dayfile.proofs.Search.{found-here}
-use Rattle.dayfile.proofs.Sound.{InOrder}
+
+-- the kinds of the entries are right
+pub record InOrder (f : List ℕ) : Type 0 where
+  pub many : 3 ≤ count f
+  pub right : (e : ℕ) → e < count f → kindRight f e ≡ true
 
 module _ (f : List ℕ) (o : InOrder f) where
   pub kind-one : kind f 0 ≡ 1
@@ -82,6 +86,11 @@ module _ (f : List ℕ) (o : InOrder f) where
       first (suc zero) l = let t = kind-two in omega arith
       first (suc (suc zero)) l = let t = kind-three in omega arith
       first (suc (suc (suc j))) l = absurd (omega arith)
+
+  -- every kind is known
+  pub kind-most : (e : ℕ) → e < count f → kind f e ≤ known
+  kind-most e l =
+      elim (decLt e 3) [ yes h ↦ (let b = split-first .below e h in omega arith) | no h ↦ kind-known e (omega arith) l ]
 
   -- the next entry has the kind
   pub hit : (e lo : ℕ) → Split e lo → e < count f → kind f e ≡ lo → entryOf f lo ≡ some e

@@ -1,13 +1,15 @@
 -- What holds of a file that no line of the table turns away.
 -- Assumes nothing.
 use mathlib.Core.Bool.{Bool, true, false, not, cond}
-use mathlib.Core.List.{List, _++_}
+use mathlib.Core.List.{List, [], _∷_, _++_}
+use mathlib.Core.Logic.{⊎-elim}
 use mathlib.Core.Option.{none}
-use mathlib.Core.Path.{_≡_}
-use Prim.Native.Nat.{ℕ, _+_, _*_, _%_, _≤_, _<_}
+use mathlib.Core.Path.{_≡_, refl, sym, _∙_, ap}
+use Prim.Native.Nat.{ℕ, zero, suc, _+_, _*_, _%_, _≤_, _<_}
+use native.Mathlib.Nat.{eq-or-lt-of-le}
 use native.Mathlib.Omega.{arith}
 use lib.Dec.{eqb}
-use lib.ListN.{length}
+use lib.ListN.{length, getD}
 use borrow.Author.Tests.{eqb-true, ltb-false, not-false}
 use Rattle.model.specs.Lowest.{when, lowest}
 use Rattle.model.proofs.Lowest.{lowest-none}
@@ -19,11 +21,13 @@ use Rattle.dayfile.specs.Table.{contentsLines, lengthLines, valueLines, 
 use Rattle.dayfile.proofs.Tests.{within-low, within-high, when-none}
 use Rattle.dayfile.proofs.Search.{offset-none}
 use Rattle.dayfile.proofs.Lines.{none-holds, none-parts}
+use Rattle.dayfile.proofs.Rising.{InOrder, kind-one, kind-two, kind-three, kind-most, split-first}
 
--- the kinds of the entries are right
-pub record InOrder (f : List ℕ) : Type 0 where
-  pub many : 3 ≤ count f
-  pub right : (e : ℕ) → e < count f → kindRight f e ≡ true
+-- how many fields a body of kind k has: the kinds count from 0, which is none
+abbrev pub bodyFields : List ℕ → ℕ → ℕ
+bodyFields f k =
+    let n : ℕ = seatsIn f in
+    let m : ℕ = windowsIn f in getD (0 ∷ n ∷ m ∷ n * m ∷ n * m ∷ []) k 0
 
 -- each of n fields from an offset on is low to high
 abbrev pub FieldsWithin : List ℕ → ℕ → ℕ → ℕ → ℕ → Type 0
@@ -31,17 +35,14 @@ FieldsWithin f at n low high = (i : ℕ) → i < n → within low high (field f 
 
 pub record Sound (f : List ℕ) : Type 0 where
   pub order : InOrder f
-  pub count-high : count f ≤ known
   pub room : contentsEnd (count f) ≤ length f
   pub starts : (e : ℕ) → e < count f → start f e ≡ ends f e
   pub last : ends f (count f) ≡ length f
   pub seats-low : 2 ≤ size f 0
   pub seats-high : size f 0 ≤ 64
-  pub seats-even : size f 0 % 2 ≡ 0
   pub windows-low : 2 ≤ size f 1
   pub windows-high : size f 1 ≤ 48
-  pub windows-even : size f 1 % 2 ≡ 0
-  pub grids : (e : ℕ) → e < count f → within 3 4 (kind f e) ≡ true → size f e ≡ 2 * (seatsIn f * windowsIn f)
+  pub sizes : (e : ℕ) → e < count f → size f e ≡ 2 * bodyFields f (kind f e)
   pub classes : FieldsWithin f (start f 0) (seatsIn f) 1 8
   pub supplies : FieldsWithin f (start f 1) (windowsIn f) 0 4095
   pub caps : FieldsWithin f (start f 2) (seatsIn f * windowsIn f) 0 4095
@@ -88,6 +89,33 @@ grid-size f e g k =
     let cells : ℕ = 2 * (seatsIn f * windowsIn f) in
     eqb-true (size f e) cells (cond-when (within 3 4 (kind f e)) (eqb (size f e) cells) true g k)
 
+-- ---- the length of each body, by its kind: one step for each kind from 3 on
+
+module _ (f : List ℕ) (o : InOrder f) where
+  -- bodies of this kind
+  abbrev SizedAt : ℕ → Type 0
+  SizedAt k = (e : ℕ) → e < count f → kind f e ≡ k → size f e ≡ 2 * bodyFields f k
+
+  -- bodies of this kind and of those after it
+  abbrev SizedFrom : ℕ → Type 0
+  SizedFrom k = (e : ℕ) → e < count f → k ≤ kind f e → size f e ≡ 2 * bodyFields f (kind f e)
+
+  sized-last : SizedFrom (suc known)
+  sized-last e l h = let m = kind-most f o e l in absurd (omega arith)
+
+  sized-step : (k : ℕ) → SizedAt k → SizedFrom (suc k) → SizedFrom k
+  sized-step k here after e l h =
+      ⊎-elim (λ q. here e l (sym q) ∙ ap (λ (j : ℕ). 2 * bodyFields f j) q) (λ q. after e l q) (eq-or-lt-of-le h)
+
+  sized-all : size f 0 ≡ 2 * seatsIn f → size f 1 ≡ 2 * windowsIn f → SizedFrom 3
+      → (e : ℕ) → e < count f → size f e ≡ 2 * bodyFields f (kind f e)
+  sized-all one two after zero l = one ∙ ap (λ (k : ℕ). 2 * bodyFields f k) (sym (kind-one f o))
+  sized-all one two after (suc zero) l = two ∙ ap (λ (k : ℕ). 2 * bodyFields f k) (sym (kind-two f o))
+  sized-all one two after (suc (suc zero)) l = after 2 l (let k = kind-three f o in omega arith)
+  sized-all one two after (suc (suc (suc e))) l =
+      let e′ : ℕ = suc (suc (suc e)) in
+      after e′ l (let k = split-first f o .above e′ (omega arith) l in omega arith)
+
 module _ (f : List ℕ) (free : firstOf (readLines f) ≡ none) where
   parts : (firstOf (contentsLines f) ≡ none) × (firstOf (lengthLines f) ≡ none) × (firstOf (valueLines f) ≡ none)
       × (firstOf (optionLines f) ≡ none)
@@ -107,19 +135,23 @@ module _ (f : List ℕ) (free : firstOf (readLines f) ≡ none) where
       let seven = even-size 2 64 (size f 0) (sizeAt 0) (l .0) in
       let eight = even-size 2 48 (size f 1) (sizeAt 1) (l .1 .0) in
       let start-right : ℕ → Bool = λ e. eqb (start f e) (ends f e) in
+      let o : InOrder f =
+      record { many = within-low 3 known (count f) two; right = all-right kindAt (kindRight f) (count f) (n .1 .1 .1 .0) } in
+      let ev7 = seven .even in
+      let ev8 = eight .even in
+      let nine : (k : ℕ) → within 3 4 k ≡ true → (e : ℕ) → e < count f → kind f e ≡ k → size f e ≡ 2 * (seatsIn f * windowsIn f) =
+      λ k g e h q. grid-size f e (all-right sizeAt (gridRight f) (count f) (l .1 .1 .0) e h) (ap (within 3 4) q ∙ g) in
       record {
-        order = record { many = within-low 3 known (count f) two; right = all-right kindAt (kindRight f) (count f) (n .1 .1 .1 .0) };
-        count-high = within-high 3 known (count f) two;
+        order = o;
         room = ltb-false (length f) (contentsEnd (count f)) (when-none _ (length f) (n .1 .1 .0));
         starts = λ e h. eqb-true (start f e) (ends f e) (all-right startAt start-right (count f) (n .1 .1 .1 .1 .0) e h);
         last = eqb-true (ends f (count f)) (length f) (kept _ (length f) (n .1 .1 .1 .1 .1 .0));
         seats-low = seven .least;
         seats-high = seven .most;
-        seats-even = seven .even;
         windows-low = eight .least;
         windows-high = eight .most;
-        windows-even = eight .even;
-        grids = λ e h. grid-size f e (all-right sizeAt (gridRight f) (count f) (l .1 .1 .0) e h);
+        sizes = sized-all f o (omega arith) (omega arith)
+            (sized-step f o 3 (nine 3 refl) (sized-step f o 4 (nine 4 refl) (sized-last f o)));
         classes = none-outside f (start f 0) (seatsIn f) 1 8 (v .0);
         supplies = none-outside f (start f 1) (windowsIn f) 0 4095 (v .1 .0);
         caps = none-outside f (start f 2) (seatsIn f * windowsIn f) 0 4095 (v .1 .1 .0);

@@ -5,8 +5,8 @@ use mathlib.Core.Option.{Option, none, some}
 use mathlib.Core.Path.{_≡_, refl, sym, _∙_, ap, ap₂}
 use Prim.Native.Nat.{ℕ, _≤_}
 use native.Mathlib.Omega.{arith}
-use lib.Dec.{leb, eqb}
-use borrow.Author.Tests.{leb-true, le-leb, eq-eqb, ne-eqb}
+use lib.Dec.{leb}
+use borrow.Author.Tests.{leb-true, le-leb}
 use Rattle.model.specs.Lowest.{when}
 use Rattle.model.proofs.Tests.{and-true}
 use Rattle.dayfile.specs.Table.{within}
@@ -22,12 +22,6 @@ cond-yes x y p = ap (λ (b : Bool). cond b x y) (sym p)
 
 pub cond-no : {A : Type 0} {t : Bool} (x y : A) → t ≡ false → y ≡ cond t x y
 cond-no x y p = ap (λ (b : Bool). cond b x y) (sym p)
-
-pub agree : (a b : ℕ) → a ≡ b → not (eqb a b) ≡ false
-agree a b e = ap not (eq-eqb a b e)
-
-pub differ : (a b : ℕ) → (a ≡ b → ⊥) → not (eqb a b) ≡ true
-differ a b n = ap not (ne-eqb a b n)
 
 -- ---- low to high
 

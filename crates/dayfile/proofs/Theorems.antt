@@ -9,7 +9,7 @@ use native.Mathlib.Omega.{arith}
 use lib.ListN.{length}
 use Rattle.model.specs.Book.{Book, Grid}
 use Rattle.sheet.specs.Sheets.{gridOf}
-use Rattle.dayfile.specs.Bounds.{Fit, SheetFit, TwoByte}
+use Rattle.dayfile.specs.Bounds.{Fit, SheetFit, TwoByte, longestFile}
 use Rattle.dayfile.specs.Layout.{Bytes, bookOf, sheetOf}
 use Rattle.dayfile.specs.File.{fileOf}
 use Rattle.dayfile.specs.Table.{Refusal, firstOf, readLines, writeLines}
@@ -70,13 +70,13 @@ read-writes-back f b s by e =
     let g = answered (firstOf (readLines f)) (bookOf f, sheetOf f) (b, s) e in
     ap (λ (p : Book × Option Grid). fileOf (p .0) (p .1)) (sym (g .1)) ∙ written-again f (sound f (g .0)) by
 
--- the longest file has 3,210 bytes: no accepted file has more, and one has as many
-pub longest : (f : List ℕ) (b : Book) (s : Option Grid) → Bytes f → readFile f ≡ answer (b, s) → length f ≤ 3210
+-- the longest file: no accepted file has more, and one has as many
+pub longest : (f : List ℕ) (b : Book) (s : Option Grid) → Bytes f → readFile f ≡ answer (b, s) → length f ≤ longestFile
 longest f b s by e =
     let back = ap length (read-writes-back f b s by e) in
     let fit = accepted-fits f b s e in let short = file-short b s (fit .0) (fit .1) in omega arith
 
-pub longest-there : (f : List ℕ) × Bytes f × (readFile f ≡ answer (longBook, some longSheet)) × (length f ≡ 3210)
+pub longest-there : (f : List ℕ) × Bytes f × (readFile f ≡ answer (longBook, some longSheet)) × (length f ≡ longestFile)
 longest-there = (
   fileOf longBook (some longSheet),
   file-bytes longBook (some longSheet) long-fits long-sheet-fits long-two-byte,

@@ -14,7 +14,7 @@ use Rattle.model.specs.Book.{Book, Grid, Shaped, seats, windows}
 use Rattle.model.proofs.Lowest.{lowest-fails}
 use Rattle.dayfile.specs.Bounds.{Fit, SheetFit}
 use Rattle.dayfile.specs.Layout.{field, count, contentsEnd, kind, start, size, ends, seatsIn, windowsIn, kindAt, startAt, sizeAt}
-use Rattle.dayfile.specs.Layout.{entryOf, fieldsAt, gridAt, bookOf, sheetOf}
+use Rattle.dayfile.specs.Layout.{entryOf, fieldsAt, gridAt, gridIn, bookOf, sheetOf}
 use Rattle.dayfile.specs.File.{Part, part, partsOf, flatIf, optParts, flat, assemble, fileOf}
 use Rattle.dayfile.specs.Table.{firstOf, within, offset, known, kindRight, sizeRight, gridRight, outside}
 use Rattle.dayfile.specs.Table.{line1, line2, line3, line4, line5, line6, line7, line8, line9, line10, line11, line12}
@@ -23,8 +23,7 @@ use Rattle.dayfile.proofs.Tests.{is-within, cond-no}
 use Rattle.dayfile.proofs.Fields.{fields-at}
 use Rattle.dayfile.proofs.Grids.{flat-length, flat-cell, grid-there}
 use Rattle.dayfile.proofs.Container.{nth, before-all, file-size, count-is, kind-is, start-is, size-is, ends-is, body-is}
-use Rattle.dayfile.proofs.Sound.{InOrder}
-use Rattle.dayfile.proofs.Rising.{split-first}
+use Rattle.dayfile.proofs.Rising.{InOrder, split-first}
 use Rattle.dayfile.proofs.Optional.{Above, above-opt, above-next, Each, each-nth, each-opt, IfThere, few-opt}
 use Rattle.dayfile.proofs.Optional.{BodyAt, Looked, look}
 
@@ -178,21 +177,17 @@ module _ (b : Book) (o : Option Grid) (fit : Fit b) (sheet : SheetFit b o) where
   even-right low high n h k =
       ap₂ (λ (x y : Bool). x && y) (is-within low high (2 * n) h k) (eq-eqb (2 * n % 2) 0 (omega arith))
 
+  size-none : (e high n : ℕ) → size f e ≡ 2 * n → 1 ≤ n → 2 * n ≤ high → when (not (sizeRight 2 high (size f e))) (sizeAt e) ≡ none
+  size-none e high n q l h =
+      ap (λ (t : Bool). when (not t) (sizeAt e)) (ap (sizeRight 2 high) q ∙ even-right 2 high n (omega arith) h)
+
   at7 : line7 f ≡ none
   unfolding line7
-  at7 =
-      let l = fit .seats-low in
-      let h = fit .seats-high in
-      ap (λ (t : Bool). when (not t) (sizeAt 0))
-      (ap (sizeRight 2 64) (size-f 0 (omega arith)) ∙ even-right 2 64 S (omega arith) (omega arith))
+  at7 = size-none 0 64 S (size-f 0 (omega arith)) (fit .seats-low) (omega (arith, fit .seats-high))
 
   at8 : line8 f ≡ none
   unfolding line8
-  at8 =
-      let l = fit .windows-low in
-      let h = fit .windows-high in
-      ap (λ (t : Bool). when (not t) (sizeAt 1))
-      (ap (sizeRight 2 48) (size-f 1 (omega arith)) ∙ even-right 2 48 W (omega arith) (omega arith))
+  at8 = size-none 1 48 W (size-f 1 (omega arith)) (fit .windows-low) (omega (arith, fit .windows-high))
 
   grid-if : (e : ℕ) → e < length ps → (t : Bool) → within 3 4 (nth ps e .sort) ≡ t
       → (within 3 4 (nth ps e .sort) ≡ true → length (nth ps e .body) ≡ S * W)
@@ -248,7 +243,7 @@ module _ (b : Book) (o : Option Grid) (fit : Fit b) (sheet : SheetFit b o) where
   made x y z = record { classes = x; supplies = y; caps = z }
 
   grid-f : (e : ℕ) (g : Grid) → e < length ps → nth ps e .body ≡ flat g → Shaped S W g
-      → gridAt f (start f e) (seatsIn f) (windowsIn f) ≡ g
+      → gridIn f e ≡ g
   grid-f e g h q s =
       ap₂ (gridAt f (start f e)) seats-f windows-f
       ∙ grid-there f (start f e) S W g s
@@ -257,7 +252,7 @@ module _ (b : Book) (o : Option Grid) (fit : Fit b) (sheet : SheetFit b o) where
   book-is : bookOf f ≡ b
   unfolding bookOf
   book-is =
-      ap₂ (λ (x y : List ℕ). made x y (gridAt f (start f 2) (seatsIn f) (windowsIn f)))
+      ap₂ (λ (x y : List ℕ). made x y (gridIn f 2))
       (ap (fieldsAt f (start f 0)) seats-f ∙ body-f 0 (omega arith))
       (ap (fieldsAt f (start f 1)) windows-f ∙ body-f 1 (omega arith))
       ∙ ap (made (b .classes) (b .supplies)) (grid-f 2 (b .caps) (omega arith) refl (fit .cap-shape))
@@ -273,7 +268,7 @@ module _ (b : Book) (o : Option Grid) (fit : Fit b) (sheet : SheetFit b o) where
 
   -- a grid of a kind that may be missing
   grid-at : (r : Option ℕ) (g : Option Grid) → SheetFit b g → BodyAt (length ps) ps refl order-f r (flatIf g)
-      → andThen r (λ e. some (gridAt f (start f e) (seatsIn f) (windowsIn f))) ≡ g
+      → andThen r (λ e. some (gridIn f e)) ≡ g
   grid-at none none p h = refl
   grid-at none (some g) p h = absurd h
   grid-at (some e) none p h = absurd h

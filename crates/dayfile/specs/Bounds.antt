@@ -25,3 +25,7 @@ SheetFit b (some s) = SheetOf b s
 abbrev pub TwoByte : Book → Option Grid → Type 0
 TwoByte b none = Unit {0}
 TwoByte b (some s) = (i j : ℕ) → i < seats b → j < windows b → cell s i j < 65536
+
+-- the longest file has 32 seats, 24 windows and a sheet
+abbrev pub longestFile : ℕ
+longestFile = 3210

@@ -12,7 +12,7 @@ use Rattle.model.specs.Book.{Book, Grid, seats, windows}
 use Rattle.sheet.specs.Sheets.{gridOf}
 use Rattle.dayfile.specs.Layout.{bookOf, sheetOf}
 use Rattle.dayfile.specs.File.{fileOf}
-use Rattle.dayfile.specs.Table.{Line, Refusal, refuse, readLines}
+use Rattle.dayfile.specs.Table.{Line, Refusal, refuse, readLines, writeLines}
 use Rattle.dayfile.specs.Outcome.{Outcome, turnedAway, answer, Defined}
 use Rattle.dayfile.specs.declared.Book as Memory
 use Rattle.dayfile.specs.declared.Day.{Day}
@@ -116,3 +116,7 @@ front file buf = file ++ drop (length file) buf
 abbrev pub Writes : (lines : ℕ → List Line) (file before after : List ℕ) → Written.Written → Type 0
 Writes lines file before after r =
     Defined (lines (length before)) before after (written r) (λ n. (n ≡ length file) × (after ≡ front file before))
+
+-- the writer's contract
+abbrev pub WritesDay : Day → (before after : List ℕ) → Written.Written → Type 0
+WritesDay d before after r = Writes (writeLines (fileIn d)) (fileIn d) before after r

@@ -1,11 +1,11 @@
 -- A path that is walked back from the donor, layer by layer. Assumes nothing.
-use mathlib.Core.Path.{_≡_, refl, _∙_}
+use mathlib.Core.Path.{_≡_, refl}
 use mathlib.Core.Logic.{inl, inr}
 use mathlib.Core.List.{List, [], _∷_, map}
 use Prim.Native.Nat.{ℕ, suc, min, _<_, _≤_}
 use native.Mathlib.Decide.{ℕ-discrete}
 use native.Mathlib.Omega.{arith}
-use lib.ListN.{length, set, take, drop, length-take, length-set, length-map, drop-of-length-le}
+use lib.ListN.{length, set, take, drop, length-take, length-set, drop-of-length-le}
 use lib.Seq.{take-set-lt, drop-cons, getD-set-same, drop-set-lt}
 use Rattle.fairness.specs.Instance.{Instance}
 use Rattle.fairness.specs.Exchange as fairness
@@ -28,11 +28,11 @@ Walk graph sets g r (m ∷ ms) l =
 
 -- ---- a move to a member of a set
 
-module _ (graph : Graph) (set giver windows : ℕ)
+module _ (graph : Graph) (giver windows : ℕ)
     (held : Collects (length (graph .holders)) (λ w. In giver (setAt (graph .holders) w)) windows) where
   -- who can take from the giver has room in one of the windows in which the giver has a credit
-  pub gives-meets : (k : ℕ) → In k set → Takes graph k giver → Meets set (graph .rooms) windows k
-  gives-meets k p t = record {
+  pub gives-meets : (set k : ℕ) → In k set → Takes graph k giver → Meets set (graph .rooms) windows k
+  gives-meets set k p t = record {
     member = p;
     shared = t .via;
     own = t .here .member;
@@ -85,8 +85,9 @@ stored ms r n m h l =
     let after = drop-set-lt (suc r) (take n ms) r m (omega arith) in
     rw (take-set-lt n ms r m, drop-cons (set (take n ms) r m) r m, getD-set-same (take n ms) r m m, after) refl
 
-pub step-back : (graph : Graph) (sets : List ℕ) (moves : List Move) (donor count r giver : ℕ) (m : Move) → r < count → count ≤ length moves
-    → GivesBy graph (setAt sets r) giver m → Fewest sets giver (suc r) → Walk graph sets giver (suc r) (drop (suc r) (take count moves)) donor
+pub step-back : (graph : Graph) (sets : List ℕ) (moves : List Move) (donor count r giver : ℕ) (m : Move) → r < count
+    → count ≤ length moves → GivesBy graph (setAt sets r) giver m → Fewest sets giver (suc r)
+    → Walk graph sets giver (suc r) (drop (suc r) (take count moves)) donor
     → Walk graph sets (m .taker) r (drop r (take count (set moves r m))) donor
 step-back graph sets moves donor count r giver m h l p f w =
     rw (stored moves r count m h l)
@@ -95,9 +96,6 @@ step-back graph sets moves donor count r giver m h l p f w =
 -- none are there at first
 pub stored-none : (ms : List Move) (n : ℕ) → n ≤ length ms → drop n (take n ms) ≡ []
 stored-none ms n h = drop-of-length-le (take n ms) {i = n} (omega (arith, length-take n ms))
-
-pub stored-length : (ms : List Move) (n : ℕ) → n ≤ length ms → length (map moveOf (take n ms)) ≡ n
-stored-length ms n h = length-map (take n ms) moveOf ∙ length-take n ms ∙ omega arith
 
 -- ---- a walk is a path
 

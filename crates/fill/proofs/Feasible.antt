@@ -1,6 +1,5 @@
--- A filled grid is feasible and not wasteful in every instance of the book.
+-- Feasible grids window by window; a filled grid is feasible and not wasteful in every instance that the numbers tell.
 use mathlib.Core.Path.{_≡_, ap, _∙_}
-use mathlib.Core.List.{List}
 use Prim.Native.Nat.{ℕ, min, _<_}
 use native.Mathlib.Omega.{arith}
 use lib.ListN.{getD}
@@ -8,25 +7,31 @@ use Rattle.fairness.specs.Sums.{sum}
 use Rattle.fairness.specs.Instance.{Instance, Feasible, Wasteful, placed}
 use Rattle.fairness.proofs.Sums.{sum-lt}
 use Rattle.model.specs.Book.{Grid, cell}
-use Rattle.fill.specs.Fills.{Has, Full, FullAt}
+use Rattle.instance.specs.declared.Terms.{Terms}
+use Rattle.instance.specs.Terms.{instanceIn, Told}
+use Rattle.fill.specs.Fills.{Full, FeasibleAt, Filled}
+
+-- a feasible grid is so in each window
+pub feasible-at : (t : Terms) (caps g : Grid) → Feasible (instanceIn t caps) (cell g) →
+    (j : ℕ) → j < t .windows → FeasibleAt (t .seats) j caps (getD (t .supplies) j 0) g
+feasible-at t caps g f j l = record { within = λ i k. f .within i j k l; fits = f .fits j l }
 
 module _
-    (n m : ℕ) (caps : Grid) (supplies : List ℕ) (g : Grid) (full : (j : ℕ) → j < m → FullAt n j caps (getD supplies j 0) g)
-    (I : Instance) (h : Has n m caps supplies I)
+    (t : Terms) (caps g : Grid) (f : Filled (t .seats) (t .windows) caps (t .supplies) g) (I : Instance) (told : Told I t caps)
   where
     -- a window's cells together, in the instance's words
-    together : (j : ℕ) → j < m → placed I (cell g) j ≡ min (getD supplies j 0) (sum n (λ i. cell caps i j))
-    together j l = ap (λ (k : ℕ). sum k (λ i. cell g i j)) (h .seats) ∙ full j l .placed
+    together : (j : ℕ) → j < t .windows → placed I (cell g) j ≡ min (getD (t .supplies) j 0) (sum (t .seats) (λ i. cell caps i j))
+    together j l = ap (λ (k : ℕ). sum k (λ i. cell g i j)) (told .seats-are) ∙ f .full j l .placed
 
     feasible : Feasible I (cell g)
     feasible = record {
       within = λ i j a b.
-          let p : i < n = omega (arith, h .seats) in
-          let q : j < m = omega (arith, h .windows) in
-          omega (arith, full j q .within i p, h .cap i j p q);
+          let p : i < t .seats = omega (arith, told .seats-are) in
+          let q : j < t .windows = omega (arith, told .windows-are) in
+          omega (arith, f .full j q .within i p, told .caps-are i j p q);
       fits = λ j b.
-          let q : j < m = omega (arith, h .windows) in
-          omega (arith, together j q, h .supply j q);
+          let q : j < t .windows = omega (arith, told .windows-are) in
+          omega (arith, together j q, told .supplies-are j q);
     }
 
     -- a seat below its cap has the window's cells together below its caps together, so the supply is handed out
@@ -34,11 +39,11 @@ module _
     unwasted w =
         let i = w .seat in
         let j = w .window in
-        let p : i < n = omega (arith, h .seats, w .in-seat) in
-        let q : j < m = omega (arith, h .windows, w .in-window) in
-        let below : cell g i j < cell caps i j = omega (arith, w .room, h .cap i j p q) in
-        let less = sum-lt n (λ k. cell g k j) (λ k. cell caps k j) i (full j q .within) p below in
-        omega (arith, full j q .placed, together j q, h .supply j q, w .left, less)
+        let p : i < t .seats = omega (arith, told .seats-are, w .in-seat) in
+        let q : j < t .windows = omega (arith, told .windows-are, w .in-window) in
+        let below : cell g i j < cell caps i j = omega (arith, w .room, told .caps-are i j p q) in
+        let less = sum-lt (t .seats) (λ k. cell g k j) (λ k. cell caps k j) i (f .full j q .within) p below in
+        omega (arith, f .full j q .placed, together j q, told .supplies-are j q, w .left, less)
 
     pub is-full : Full I (cell g)
     is-full = record { feasible = feasible; unwasted = unwasted }

@@ -24,7 +24,6 @@ module _ (n j : ℕ) (caps : Grid) (supply : ℕ) (g : Grid) where
     pub within : (i : ℕ) → i < n → cell r i j ≤ cell caps i j
     pub count : sum n (λ i. cell r i j) + left ≡ supply
     pub full : (i : ℕ) → i < k → 0 < left → cell caps i j ≤ cell r i j
-    pub past : (i b : ℕ) → n ≤ i → cell r i b ≡ cell g i b
     pub others : (i b : ℕ) → b ≢ j → cell r i b ≡ cell g i b
 
   pub first : (left : ℕ) → Shaped 32 24 g → FeasibleAt n j caps supply g → sum n (λ i. cell g i j) + left ≡ supply → Filling 0 left g
@@ -33,7 +32,6 @@ module _ (n j : ℕ) (caps : Grid) (supply : ℕ) (g : Grid) where
     within = feasible .within;
     count = count;
     full = λ i l. absurd (omega arith);
-    past = λ i b l. refl;
     others = λ i b d. refl;
   }
 
@@ -57,7 +55,6 @@ module _ (n j : ℕ) (caps : Grid) (supply : ℕ) (g : Grid) where
           | yes q ↦ rw q (omega (arith, wrote .here))
           | no q ↦ omega (arith, wrote .seats i j q, f .full i (omega arith) (omega arith))
         ];
-        past = λ i b l. wrote .seats i b (λ q. omega arith) ∙ f .past i b l;
         others = λ i b d. wrote .windows i b d ∙ f .others i b d;
       }
 
@@ -65,7 +62,6 @@ module _ (n j : ℕ) (caps : Grid) (supply : ℕ) (g : Grid) where
   last k left r f l = record {
     shape = f .shape;
     full = record { within = f .within; placed = together left (f .count) (f .full) };
-    past = f .past;
     others = f .others;
   }
     where
@@ -91,29 +87,33 @@ same-full n j caps supply g r same full = record {
 }
 
 module _ (n : ℕ) (caps : Grid) (supplies : List ℕ) (g : Grid) where
-  pub filled-none : Shaped 32 24 g → Filled n 0 caps supplies g g
+  -- the windows below m are filled, and the others are as they were
+  pub record Upto (m : ℕ) (r : Grid) : Type 0 where
+    pub filled : Filled n m caps supplies r
+    pub later : (i j : ℕ) → m ≤ j → cell r i j ≡ cell g i j
+
+  pub filled-none : Shaped 32 24 g → Upto 0 g
   filled-none shape = record {
-    shape = shape;
-    full = λ j l. absurd (omega arith);
-    past-seats = λ i j l. refl;
-    past-windows = λ i j l. refl;
+    filled = record { shape = shape; full = λ j l. absurd (omega arith) };
+    later = λ i j l. refl;
   }
 
-  module _ (m : ℕ) (r : Grid) (f : Filled n m caps supplies g r) where
+  module _ (m : ℕ) (r : Grid) (u : Upto m r) where
     -- the next window is as it was
     pub next-feasible : FeasibleAt n m caps (getD supplies m 0) g → FeasibleAt n m caps (getD supplies m 0) r
     next-feasible p = record {
-      within = λ i l. omega (arith, f .past-windows i m (omega arith), p .within i l);
-      fits = omega (arith, sum-eq n (λ i. cell r i m) (λ i. cell g i m) (λ i l. f .past-windows i m (omega arith)), p .fits);
+      within = λ i l. omega (arith, u .later i m (omega arith), p .within i l);
+      fits = omega (arith, sum-eq n (λ i. cell r i m) (λ i. cell g i m) (λ i l. u .later i m (omega arith)), p .fits);
     }
 
-    pub filled-more : (t : Grid) → Handed n m caps (getD supplies m 0) r t → Filled n (m + 1) caps supplies g t
+    pub filled-more : (t : Grid) → Handed n m caps (getD supplies m 0) r t → Upto (m + 1) t
     filled-more t h = record {
-      shape = h .shape;
-      full = λ j l. elim (ℕ-discrete j m) [
-        | yes e ↦ rw e (h .full)
-        | no d ↦ same-full n j caps (getD supplies j 0) r t (λ i. h .others i j d) (f .full j (omega arith))
-      ];
-      past-seats = λ i j l. h .past i j l ∙ f .past-seats i j l;
-      past-windows = λ i j l. h .others i j (λ e. omega arith) ∙ f .past-windows i j (omega arith);
+      filled = record {
+        shape = h .shape;
+        full = λ j l. elim (ℕ-discrete j m) [
+          | yes e ↦ rw e (h .full)
+          | no d ↦ same-full n j caps (getD supplies j 0) r t (λ i. h .others i j d) (u .filled .full j (omega arith))
+        ];
+      };
+      later = λ i j l. h .others i j (λ e. omega arith) ∙ u .later i j (omega arith);
     }

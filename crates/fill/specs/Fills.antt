@@ -8,13 +8,6 @@ use Rattle.fairness.specs.Sums.{sum}
 use Rattle.fairness.specs.Instance.{Instance, Sheet, Feasible, Wasteful}
 use Rattle.model.specs.Book.{Grid, cell, Shaped}
 
--- the instance I has n seats, m windows, these caps and these supplies; what the grid of caps holds outside n × m does not count
-pub record Has (n m : ℕ) (caps : Grid) (supplies : List ℕ) (I : Instance) : Type 0 where
-  pub seats : I .seats ≡ n
-  pub windows : I .windows ≡ m
-  pub cap : (i j : ℕ) → i < n → j < m → I .cap i j ≡ cell caps i j
-  pub supply : (j : ℕ) → j < m → I .supply j ≡ getD supplies j 0
-
 -- feasible, with nothing wasted
 pub record Full (I : Instance) (S : Sheet) : Type 0 where
   pub feasible : Feasible I S
@@ -36,14 +29,11 @@ pub record FullAt (n j : ℕ) (caps : Grid) (supply : ℕ) (g : Grid) : Type 0 w
 pub record Handed (n j : ℕ) (caps : Grid) (supply : ℕ) (g r : Grid) : Type 0 where
   pub shape : Shaped 32 24 r
   pub full : FullAt n j caps supply r
-  pub past : (i k : ℕ) → n ≤ i → cell r i k ≡ cell g i k
   pub others : (i k : ℕ) → k ≢ j → cell r i k ≡ cell g i k
 
 -- ---- m windows of n seats
 
--- r is the grid g with every window filled
-pub record Filled (n m : ℕ) (caps : Grid) (supplies : List ℕ) (g r : Grid) : Type 0 where
+-- every window is filled
+pub record Filled (n m : ℕ) (caps : Grid) (supplies : List ℕ) (r : Grid) : Type 0 where
   pub shape : Shaped 32 24 r
   pub full : (j : ℕ) → j < m → FullAt n j caps (getD supplies j 0) r
-  pub past-seats : (i j : ℕ) → n ≤ i → cell r i j ≡ cell g i j
-  pub past-windows : (i j : ℕ) → m ≤ j → cell r i j ≡ cell g i j

@@ -1,10 +1,13 @@
 // Free credits handed out: window by window, seat by seat, up to the caps.
 ghost use mathlib.Core.Path.{_≡_};
-ghost use Prim.Native.Nat.{ℕ, min, _+_, _-_, _≤_, _<_};
-ghost use lib.ListN.{getD};
+ghost use Prim.Native.Nat.{min, _+_, _-_, _≤_, _<_};
 ghost use Rattle.fairness.specs.Sums.{sum};
+ghost use Rattle.fairness.specs.Instance.{Feasible};
 ghost use Rattle.model.specs.Book.{cell, Shaped};
+ghost use Rattle.instance.specs.Terms.{instanceIn};
 ghost use Rattle.fill.specs.Fills.{FeasibleAt, Handed, Filled};
+use instance::Terms;
+use sheet::Caps;
 
 pub fn lesser(a: u16, b: u16) -> u16
     ensures { λ r. ⌜ r ≡ min a b ⌝ }
@@ -20,7 +23,7 @@ pub fn room(cell: u16, cap: u16) -> u16
 }
 
 // What is left of a window's supply.
-fn left_in(grid: &[[u16; 24]; 32], seats: usize, window: usize, supply: u16) -> u16
+fn left_in(grid: &Caps, seats: usize, window: usize, supply: u16) -> u16
     requires { ⌜ (seats ≤ 32) × (window < 24) ⌝ }
     requires { ⌜ sum seats (λ i. cell (now grid) i window) ≤ supply ⌝ }
     ensures { λ r. ⌜ sum seats (λ i. cell (now (grid .entry)) i window) + r ≡ supply ⌝ }
@@ -33,13 +36,7 @@ fn left_in(grid: &[[u16; 24]; 32], seats: usize, window: usize, supply: u16) -> 
 }
 
 // Hands out what is left of a window's supply, seat by seat up to each cap.
-fn fill_window(
-    grid: &mut [[u16; 24]; 32],
-    caps: &[[u16; 24]; 32],
-    seats: usize,
-    window: usize,
-    supply: u16,
-)
+fn fill_window(grid: &mut Caps, caps: &Caps, seats: usize, window: usize, supply: u16)
     requires { ⌜ (seats ≤ 32) × (window < 24) ⌝ }
     requires { ⌜ Shaped 32 24 (now grid) ⌝ }
     requires { ⌜ FeasibleAt seats window (now caps) supply (now grid) ⌝ }
@@ -54,21 +51,17 @@ fn fill_window(
     }
 }
 
-// Hands out all free credits.
-pub fn fill(
-    grid: [[u16; 24]; 32],
-    caps: &[[u16; 24]; 32],
-    supplies: [u16; 24],
-    seats: usize,
-    windows: usize,
-) -> [[u16; 24]; 32]
-    requires { ⌜ (seats ≤ 32) × (windows ≤ 24) ⌝ }
-    requires { ⌜ ((j : ℕ) → j < windows → FeasibleAt seats j (now caps) (getD supplies j 0) grid) ⌝ }
-    ensures { λ r. ⌜ Filled seats windows (now (caps .entry)) supplies grid r ⌝ }
+// Hands out all free credits of a feasible grid.
+pub fn fill(grid: &mut Caps, caps: &Caps, t: Terms)
+    requires { ⌜ (t .seats ≤ 32) × (t .windows ≤ 24) ⌝ }
+    requires { ⌜ Shaped 32 24 (now grid) ⌝ }
+    requires { ⌜ Feasible (instanceIn t (now caps)) (cell (now grid)) ⌝ }
+    ensures { λ _. ⌜ Filled (t .seats) (t .windows) (now (caps .entry)) (t .supplies) (now (grid .exit)) ⌝ }
 {
-    let mut filled = grid;
+    let seats = t.seats;
+    let windows = t.windows;
+    let supplies = t.supplies;
     for w in 0..windows {
-        fill_window(&mut filled, caps, seats, w, supplies[w]);
+        fill_window(grid, caps, seats, w, supplies[w]);
     }
-    filled
 }

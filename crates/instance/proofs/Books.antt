@@ -1,12 +1,11 @@
 -- A loop that works out each seat's weight and place, and what its end tells of the book that is in memory. Assumes nothing.
-use mathlib.Core.Path.{_≡_, refl, ap, sym, _∙_}
+use mathlib.Core.Path.{_≡_, ap, sym, _∙_}
 use mathlib.Core.List.{List, []}
-use Prim.Native.Nat.{ℕ, zero, suc, _+_, _≤_, _<_}
-use native.Mathlib.Decide.{ℕ-discrete}
+use Prim.Native.Nat.{ℕ, _≤_, _<_}
 use native.Mathlib.Nat.{le-trans}
 use native.Mathlib.Omega.{arith}
-use lib.ListN.{length, getD, set, length-set, replicate}
-use lib.Seq.{getD-set-same, getD-set-other}
+use lib.ListN.{getD}
+use Rattle.lists.proofs.Arrays.{Filled, filled-at}
 use Rattle.fairness.specs.Classes.{ClassWeight, weightOf}
 use Rattle.model.specs.Book.{Grid, cell, seats, windows, instanceOf}
 use Rattle.dayfile.specs.Bounds.{Fit}
@@ -52,60 +51,33 @@ module _ (m : Memory.Book) (caps : Grid) where
 
 -- ---- the loop
 
--- the first k weights and places are known
-pub record Known (m : Memory.Book) (k : ℕ) (weights positions : List ℕ) : Type 0 where
-  pub within : k ≤ m .seats
-  pub weights-size : length weights ≡ 32
-  pub positions-size : length positions ≡ 32
-  pub weight-at : (i : ℕ) → i < k → ClassWeight (getD (m .classes) i 0) (getD weights i 0)
-  pub position-at : (i : ℕ) → i < k → getD positions i 0 ≡ i
-
-pub first : (m : Memory.Book) (ws ps : List ℕ) → length ws ≡ 32 → length ps ≡ 32 → Known m 0 ws ps
-first m ws ps p q = record {
-  within = omega arith;
-  weights-size = p;
-  positions-size = q;
-  weight-at = λ i l. absurd (omega arith);
-  position-at = λ i l. absurd (omega arith);
-}
-
-pub next : (m : Memory.Book) (k w : ℕ) (ws ps : List ℕ) → Known m k ws ps → k < m .seats → m .seats ≤ 32 →
-    ClassWeight (getD (m .classes) k 0) w → Known m (k + 1) (set ws k w) (set ps k k)
-next m k w ws ps known l most is = record {
-  within = omega arith;
-  weights-size = length-set ws k _ ∙ known .weights-size;
-  positions-size = length-set ps k _ ∙ known .positions-size;
-  weight-at = λ i b. elim (ℕ-discrete i k) [
-    | yes q ↦ rw (q, getD-set-same ws k w 0 (omega (arith, known .weights-size))) is
-    | no d ↦ rw (getD-set-other ws k i w 0 d) (known .weight-at i (omega arith))
-  ];
-  position-at = λ i b. elim (ℕ-discrete i k) [
-    | yes q ↦ rw q (getD-set-same ps k k 0 (omega (arith, known .positions-size)))
-    | no d ↦ getD-set-other ps k i _ 0 d ∙ known .position-at i (omega arith)
-  ];
-}
+-- the first k weights, which were ws₀ before, and the first k places are known
+abbrev pub Known : Memory.Book → List ℕ → List ℕ → ℕ → List ℕ → List ℕ → Type 0
+Known m ws₀ ps₀ k ws ps =
+    Filled (λ i w. ClassWeight (getD (m .classes) i 0) w) 0 32 (m .seats) ws₀ k ws × Filled (λ i p. p ≡ i) 0 32 (m .seats) ps₀ k ps
 
 -- ---- its end
 
-pub zeros : (n i : ℕ) → _≡_ {A = ℕ} (getD (replicate n 0) i 0) 0
-zeros zero i = refl
-zeros (suc n) zero = refl
-zeros (suc n) (suc i) = zeros n i
-
-module _ (m : Memory.Book) (k : ℕ) (ws ps bs : List ℕ) (l : m .seats ≤ k) (known : Known m k ws ps)
+module _ (m : Memory.Book) (k : ℕ) (ws₀ ps₀ ws ps bs : List ℕ) (l : m .seats ≤ k) (known : Known m ws₀ ps₀ k ws ps)
     (none : (i : ℕ) → getD bs i 0 ≡ 0) where
   abbrev made : Terms
   made = record { seats = m .seats; windows = m .windows; supplies = m .supplies; weights = ws; bases = bs; positions = ps }
+
+  weight-at : (i : ℕ) → i < m .seats → ClassWeight (getD (m .classes) i 0) (getD ws i 0)
+  weight-at = filled-at (known .0) l
+
+  position-at : (i : ℕ) → i < m .seats → getD ps i 0 ≡ i
+  position-at = filled-at (known .1) l
 
   pub ranged : (caps : Grid) → Fit (bookIn m caps) → Ranged made
   ranged caps fit = record {
     seats-most = seats-most m caps fit;
     windows-most = windows-most m caps fit;
     supplies-most = supply-ranged m caps fit;
-    weights-least = λ i li. known .weight-at i (omega arith) .least;
-    weights-most = λ i li. le-trans (known .weight-at i (omega arith) .most) (omega arith);
+    weights-least = λ i li. weight-at i li .least;
+    weights-most = λ i li. le-trans (weight-at i li .most) (omega arith);
     bases-most = λ i li. omega (arith, none i);
-    positions-differ = λ i j li lj e. sym (known .position-at i (omega arith)) ∙ e ∙ known .position-at j (omega arith);
+    positions-differ = λ i j li lj e. sym (position-at i li) ∙ e ∙ position-at j lj;
   }
 
   pub told : (caps : Grid) → Told (instanceOf (bookIn m caps)) made caps
@@ -115,7 +87,7 @@ module _ (m : Memory.Book) (k : ℕ) (ws ps bs : List ℕ) (l : m .seats ≤ k) 
     windows-are = windows-in m caps;
     caps-are = cap-is m caps;
     supplies-are = supply-is m caps;
-    weights-are = λ i li. ap weightOf (class-is m caps i li) ∙ sym (known .weight-at i (omega arith) .exact);
+    weights-are = λ i li. ap weightOf (class-is m caps i li) ∙ sym (weight-at i li .exact);
     bases-are = λ i li. sym (none i);
-    positions-are = λ i li. sym (known .position-at i (omega arith));
+    positions-are = λ i li. sym (position-at i li);
   }

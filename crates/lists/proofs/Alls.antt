@@ -1,27 +1,37 @@
--- Lists whose elements all have a property, by index.
+-- Lists whose elements all have a property, by index; and the elements that an array has in use, the first n of it, each made into
+-- another by f, as the moves of a route are.
 use mathlib.Core.List.{List, [], _∷_, map}
+use mathlib.Core.Path.{_≡_, ap, _∙_}
 use Prim.Native.Nat.{ℕ, zero, suc, _≤_, _<_}
 use native.Mathlib.Omega.{arith}
-use lib.ListN.{length, getD, take}
+use lib.ListN.{length, getD, take, length-map, length-take, List·getD-map}
+use lib.Seq.{getD-take, length-take-le}
 use Rattle.fairness.specs.Exchange.{All}
 pub use Rattle.fairness.proofs.Lists.{All-map, All-end}
 
+-- ---- all elements of a list; past its end stands d
+
 module _ {A : Type 0} where
-  -- the element at an index; past the end stands d
   pub all-at : (P : A → Type 0) (d : A) (xs : List A) (i : ℕ) → All P xs → i < length xs → P (getD xs i d)
   all-at P d [] i a l = absurd (omega arith)
   all-at P d (x ∷ xs) zero a l = a .0
   all-at P d (x ∷ xs) (suc i) a l = all-at P d xs i (a .1) (omega arith)
 
-  -- and the other way round
-  pub all-from : (P : A → Type 0) (d : A) (xs : List A) → ((i : ℕ) → i < length xs → P (getD xs i d)) → All P xs
-  all-from P d [] f = tt
-  all-from P d (x ∷ xs) f = (f 0 (omega arith), all-from P d xs (λ i l. f (suc i) (omega arith)))
+-- ---- the first n elements of an array
 
-  -- of the first n elements of an array, each made into another by f
-  pub all-made-at : {B : Type 0} (P : B → Type 0) (f : A → B) (d : A) (xs : List A) (n i : ℕ)
-      → All P (map f (take n xs)) → i < n → n ≤ length xs → P (f (getD xs i d))
-  all-made-at P f d [] n i a l h = absurd (omega arith)
-  all-made-at P f d (x ∷ xs) zero i a l h = absurd (omega arith)
-  all-made-at P f d (x ∷ xs) (suc n) zero a l h = a .0
-  all-made-at P f d (x ∷ xs) (suc n) (suc i) a l h = all-made-at P f d xs n i (a .1) (omega arith) (omega arith)
+module _ {A B : Type 0} (f : A → B) (xs : List A) (n : ℕ) where
+  pub taken-length : n ≤ length xs → length (map f (take n xs)) ≡ n
+  taken-length h = length-map (take n xs) f ∙ length-take-le n xs h
+
+  -- there are so many
+  pub taken-within : length (map f (take n xs)) ≡ n → n ≤ length xs
+  taken-within e = omega (arith, length-map (take n xs) f, length-take n xs)
+
+  pub taken-at : (i : ℕ) (d : A) → i < n → getD (map f (take n xs)) i (f d) ≡ f (getD xs i d)
+  taken-at i d l = List·getD-map f (take n xs) i d ∙ ap f (getD-take n xs i d l)
+
+  pub taken-all-at : (P : B → Type 0) (i : ℕ) (d : A) → All P (map f (take n xs)) → i < n → n ≤ length xs → P (f (getD xs i d))
+  taken-all-at P i d a l h =
+      let e = taken-at i d l in
+      let p = all-at P (f d) (map f (take n xs)) i a (omega (arith, taken-length h)) in
+      rw e at p

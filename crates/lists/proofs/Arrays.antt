@@ -1,5 +1,5 @@
 -- Arrays that a loop fills from the front. The loop's invariant is `Filled`; `filled-first`, `filled-next` and `filled-end` are its
--- entry, its turn and its end, and the laws behind them say what the whole array then is.
+-- entry, its turn and its end; where every entry is known, the laws behind these say what the whole array is.
 use mathlib.Core.List.{List}
 use mathlib.Core.Path.{_≡_, refl, sym, _∙_, ap}
 use Prim.Native.Nat.{ℕ, zero, suc, _+_, _≤_, _<_, zero-le}
@@ -8,6 +8,7 @@ use native.Mathlib.Omega.{arith}
 use lib.ListN.{length, getD, set, replicate, length-set, getD-replicate}
 use lib.Seq.{getD-set-same, getD-set-other, ext-getD}
 use Rattle.fairness.specs.Leximin.{table}
+pub use Rattle.lists.specs.Arrays.{Filled}
 use Rattle.lists.proofs.Tables.{table-is, table-at, table-out}
 
 -- an array of n times d
@@ -19,15 +20,6 @@ replicate-at (suc n) (suc i) d = replicate-at n i d
 -- zeros
 pub zeros-at : (n i : ℕ) → _≡_ {A = ℕ} (getD (replicate n 0) i 0) 0
 zeros-at n i = replicate-at {A = ℕ} n i 0
-
--- An array of n entries, of which a loop fills the first m. It has filled i: each of these has P. The others are still those of `old`.
--- Past the end of an array stands d.
-pub record Filled {A : Type 0} (P : ℕ → A → Type 0) (d : A) (n m : ℕ) (old : List A) (i : ℕ) (xs : List A) : Type 0 where
-  pub room : m ≤ n
-  pub within : i ≤ m
-  pub size : length xs ≡ n
-  pub entry : (k : ℕ) → k < i → P k (getD xs k d)
-  pub rest : (k : ℕ) → i ≤ k → getD xs k d ≡ getD old k d
 
 module _ {A : Type 0} {P : ℕ → A → Type 0} {d : A} {n m : ℕ} {old : List A} where
   -- before the first turn

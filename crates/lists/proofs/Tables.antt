@@ -1,10 +1,10 @@
 -- Tables: the list of f 0, f 1, .., n of them.
-use mathlib.Core.List.{List, [], _∷_, _++_, map}
+use mathlib.Core.List.{List, [], _∷_, _++_}
 use mathlib.Core.Path.{_≡_, refl, sym, _∙_, ap, ap₂}
 use Prim.Native.Nat.{ℕ, zero, suc, _+_, _≤_, _<_}
 use native.Mathlib.Numerals.{add-one}
 use native.Mathlib.Omega.{arith}
-use lib.ListN.{length, take, getD, replicate, List·getD-eq-default}
+use lib.ListN.{length, take, getD, List·getD-eq-default}
 use lib.Seq.{ext-getD, getD-take, length-take-le}
 use Rattle.fairness.specs.Leximin.{table}
 use Rattle.fairness.proofs.Lists.{table-length}
@@ -45,12 +45,6 @@ module _ {A : Type 0} where
   table-take n xs d h =
       sym (table-is n (λ i. getD xs i d) (take n xs) d (length-take-le n xs h) (λ i l. getD-take n xs i d l))
 
-  -- one element n times
-  pub table-replicate : (n : ℕ) (x : A) → replicate n x ≡ table n (λ i. x)
-  unfolding table
-  table-replicate zero x = refl
-  table-replicate (suc n) x = ap (λ (xs : List A). x ∷ xs) (table-replicate n x)
-
   -- ---- one element more
 
   table-suc : (n : ℕ) (f : ℕ → A) → table (suc n) f ≡ table n f ++ (f n ∷ [])
@@ -60,10 +54,3 @@ module _ {A : Type 0} where
 
   pub table-more : (n : ℕ) (f : ℕ → A) → table (n + 1) f ≡ table n f ++ (f n ∷ [])
   table-more n f = ap (λ (k : ℕ). table k f) (add-one n) ∙ table-suc n f
-
-  -- ---- each element made into another
-
-  pub table-map : {B : Type 0} (n : ℕ) (f : ℕ → A) (g : A → B) → map g (table n f) ≡ table n (λ i. g (f i))
-  unfolding table
-  table-map zero f g = refl
-  table-map {B = B} (suc n) f g = ap (λ (xs : List B). g (f 0) ∷ xs) (table-map n (λ i. f (suc i)) g)

@@ -1,2 +1,3 @@
--- What contracts of several crates cite of buffers.
+-- What loops keep and inner contracts of several crates cite.
+pub mod Arrays
 pub mod Buffers

@@ -7,7 +7,7 @@ use native.Mathlib.Omega.{arith}
 use lib.ListN.{length, take, getD, set, length-map, length-take}
 use lib.Seq.{take-suc}
 use Rattle.lists.specs.Buffers.{Stored}
-use Rattle.lists.proofs.Alls.{all-made-at}
+use Rattle.lists.proofs.Alls.{taken-all-at}
 use Rattle.lists.proofs.Buffers.{stored-none, stored-byte, stored-as, stored-front}
 use Rattle.dayfile.specs.Memory.{front}
 use Rattle.sheet.specs.declared.Move.{Move}
@@ -60,7 +60,7 @@ module _ (path : ExchangePath) (w : Writable path) where
   move-inside i l = omega (arith, inside)
 
   pub byte-at : (i : ℕ) (d : Move) → i < path .count → InByte (moveOf (getD (path .moves) i d))
-  byte-at i d l = all-made-at InByte moveOf d (path .moves) (path .count) i (w .small) l inside
+  byte-at i d l = taken-all-at moveOf (path .moves) (path .count) InByte i d (w .small) l inside
 
   pub coded-all : {b b₀ : List ℕ} (i : ℕ) → path .count ≤ i → i ≤ path .count → 3 * path .count ≤ length b₀ →
       Stored b₀ 0 (coded i (path .moves)) b (3 * i) → b ≡ front (moveBytes (movesOf path)) b₀

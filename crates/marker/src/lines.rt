@@ -10,11 +10,11 @@ use dayfile::Check;
 use dayfile::Found;
 use dayfile::Reading;
 use dayfile::first_of;
-use reader::fields::entry_of;
-use reader::fields::field;
-use reader::fields::seats;
-use reader::fields::start;
-use reader::fields::windows;
+use fields::entry_of;
+use fields::field;
+use fields::seats;
+use fields::start;
+use fields::windows;
 
 // The shortest buffer that takes every path: 31 moves of 3 bytes.
 pub const MOVES_ROOM: usize = 93;

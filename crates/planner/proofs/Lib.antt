@@ -1,3 +1,2 @@
-pub mod Marked
 pub mod Steps
 pub mod Theorems

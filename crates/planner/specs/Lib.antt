@@ -1,3 +1,2 @@
 -- What the planner answers, and what stands in the output buffer afterwards.
 pub mod Planning
-pub mod Sheets

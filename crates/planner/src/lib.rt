@@ -1,57 +1,51 @@
 // Plans the sheet of a day file.
-ghost use mathlib.Core.Path.{_≡_};
-ghost use Rattle.dayfile.specs.Table.{firstOf, planLines};
-ghost use Rattle.dayfile.specs.Memory.{refused};
+ghost use Rattle.fairness.specs.Exchange.{Settled};
+ghost use Rattle.model.specs.Book.{instanceOf};
+ghost use Rattle.sheet.specs.Sheets.{credit};
+ghost use Rattle.dayfile.specs.Bounds.{Fit};
+ghost use Rattle.dayfile.specs.Memory.{bookIn};
 ghost use Rattle.planner.specs.Planning.{Plans};
-ghost use Rattle.planner.specs.Sheets.{Holding, SettledIn};
-ghost use lib.ListN.{length};
 use dayfile::Book;
 use dayfile::Check;
+use dayfile::Day;
 use dayfile::Written;
+use sheet::Caps;
 use sheet::Sheet;
 
-// Where the planner turns a file away, with an output buffer of `room` bytes.
-pub fn plan_check(file: &[u8], room: usize) -> Check
-    ensures { λ r. ⌜ refused r ≡ firstOf (planLines (now (file .entry)) room) ⌝ }
+// A settled sheet of the book that is in memory.
+fn planned_sheet(book: Book, caps: Caps) -> Sheet
+    requires { ⌜ Fit (bookIn book caps) ⌝ }
+    ensures { λ r. ⌜ Settled (instanceOf (bookIn book caps)) (credit r) ⌝ }
 {
-    if let Check::Refused { number, at } = reader::read_check(file) {
-        return Check::Refused { number, at };
-    }
-    let book = reader::read_book(file);
-    let need = store::file_length(book, true);
-    if room < need {
-        return Check::Refused {
-            number: 16,
-            at: need,
-        };
-    }
-    Check::Sound
-}
-
-// A settled sheet of a book in memory. The start is nearly always settled already; that the end is settled, settling alone shows.
-fn planned_sheet(book: Book, caps: [[u16; 24]; 32]) -> [[u16; 24]; 32]
-    requires { ⌜ Holding book caps ⌝ }
-    ensures { λ r. ⌜ SettledIn book caps r ⌝ }
-{
-    let terms = bookterms::terms_of(book);
-    let supplies = terms.supplies;
-    let weights = terms.weights;
-    let bases = terms.bases;
-    let start = greedy::start(terms.seats, terms.windows, caps, supplies, weights, bases);
-    let settled = settle::settle(Sheet::from_grid(start), caps, terms);
-    settled.to_grid()
+    engine::settled(instance::terms_of(book), caps)
 }
 
 // The planned file at the front of the buffer, or the refusal.
 pub fn plan(file: &[u8], out: &mut [u8]) -> Written
     ensures { λ r. ⌜ Plans (now (file .entry)) (now (out .entry)) (now (out .exit)) r ⌝ }
 {
-    if let Check::Refused { number, at } = plan_check(file, out.len()) {
+    let reading = reader::read(file);
+    let check = reading.check;
+    if let Check::Refused { number, at } = check {
         return Written::Refused { number, at };
     }
-    let book = reader::read_book(file);
-    let caps = reader::read_caps(file);
-    let sheet = planned_sheet(book, caps);
-    let length = store::put_file(out, book, caps, true, sheet);
+    let day = reading.day;
+    let book = day.book;
+    let caps = day.caps;
+    let need = writer::file_length(book, true);
+    if out.len() < need {
+        return Written::Refused {
+            number: 16,
+            at: need,
+        };
+    }
+    let sheet = planned_sheet(book, caps.to_grid());
+    let planned = Day {
+        book,
+        caps,
+        has_sheet: true,
+        sheet,
+    };
+    let length = writer::put_file(out, planned);
     Written::Whole { length }
 }

@@ -2,13 +2,12 @@
 use mathlib.Core.Path.{_≡_, sym, _∙_}
 use mathlib.Core.Bool.{Bool, true, false}
 use mathlib.Core.List.{List}
-use Prim.Native.Nat.{ℕ, _+_, _^_, _<_, _≤_, min}
+use Prim.Native.Nat.{ℕ, _^_, _<_, _≤_, min}
 use native.Mathlib.Decide.{ℕ-discrete, decLt}
 use native.Mathlib.Omega.{arith}
 use lib.Count.{trailingZeros}
 use lib.Dec.{eqb}
-use lib.ListN.{length, set, List·getD-eq-default}
-use lib.Seq.{getD-set-same, getD-set-other}
+use lib.ListN.{length, List·getD-eq-default}
 use borrow.Author.Tests.{eqb-true, eqb-false}
 use Rattle.masks.specs.Sets.{bit, In}
 use Rattle.masks.proofs.Laws.{bit-lt, bit-zero}
@@ -34,15 +33,6 @@ at-small sets i l p =
       | no h ↦
           let z : length sets ≤ i = omega arith in
           absurd (omega (arith, rw (List·getD-eq-default sets 0 z) at p, bit-zero l))
-    ]
-
--- a store at n of what is right there, where all before n is right
-pub filled : (P : ℕ → ℕ → Type 0) (sets : List ℕ) (n v : ℕ) → n < length sets → ((k : ℕ) → k < n → P k (setAt sets k)) → P n v
-    → (k : ℕ) → k < n + 1 → P k (setAt (set sets n v) k)
-filled P sets n v h f p k l =
-    elim (ℕ-discrete k n) [
-      | yes q ↦ rw q (rw (getD-set-same sets n v 0 h) p)
-      | no d ↦ rw (getD-set-other sets n k v 0 d) (f k (omega arith))
     ]
 
 -- l is in the set at n and not in that at r, so r comes before n

@@ -1,3 +1,2 @@
 -- Laws of the reader.
 pub mod Products
-pub mod Filling

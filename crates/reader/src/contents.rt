@@ -5,13 +5,13 @@ ghost use Rattle.dayfile.specs.Table.{line1, line2, line3, line6, firstOf, cont
 ghost use Rattle.dayfile.specs.Memory.{found, refused};
 use crate::entries::Test;
 use crate::entries::wrong_entry;
-use crate::fields::count;
-use crate::fields::ends;
 use dayfile::Check;
 use dayfile::Found;
 use dayfile::KNOWN;
 use dayfile::first_of;
 use dayfile::outside_at;
+use fields::count;
+use fields::ends;
 
 // Line 1: under 2 bytes.
 fn too_short(file: &[u8]) -> Found

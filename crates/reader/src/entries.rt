@@ -4,16 +4,16 @@ ghost use Prim.Native.Nat.{_+_, _*_, _<_};
 ghost use Rattle.dayfile.specs.Table.{kindRight, gridRight, wrongEntry};
 ghost use Rattle.dayfile.specs.Memory.{found};
 ghost use Rattle.reader.specs.Entries.{rightBy};
-use crate::fields::count;
-use crate::fields::ends;
-use crate::fields::kind;
-use crate::fields::seats;
-use crate::fields::size;
-use crate::fields::start;
-use crate::fields::windows;
 use dayfile::Found;
 use dayfile::KNOWN;
 use dayfile::within;
+use fields::count;
+use fields::ends;
+use fields::kind;
+use fields::seats;
+use fields::size;
+use fields::start;
+use fields::windows;
 
 // What is tested: its kind, where its body starts, how long a grid is.
 pub enum Test {

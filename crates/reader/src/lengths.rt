@@ -1,14 +1,16 @@
 // Lines 7 to 9: body lengths.
 ghost use mathlib.Core.Path.{_≡_};
-ghost use Rattle.dayfile.specs.Table.{sizeRight, line7, line8, firstOf, lengthLines};
+ghost use mathlib.Core.Bool.{not};
+ghost use Rattle.model.specs.Lowest.{when};
+ghost use Rattle.dayfile.specs.Table.{sizeRight, firstOf, lengthLines};
 ghost use Rattle.dayfile.specs.Memory.{found, refused};
 use crate::entries::Test;
 use crate::entries::wrong_entry;
-use crate::fields::size;
 use dayfile::Check;
 use dayfile::Found;
 use dayfile::first_of;
 use dayfile::within;
+use fields::size;
 
 // Low to high, and even.
 fn size_right(low: usize, high: usize, n: usize) -> bool
@@ -17,33 +19,22 @@ fn size_right(low: usize, high: usize, n: usize) -> bool
     within(low, high, n) && n % 2 == 0
 }
 
-// Line 7: seats: not 2 to 64, or odd.
-fn wrong_seats(file: &[u8]) -> Found
-    ensures { λ r. ⌜ found r ≡ line7 (now (file .entry)) ⌝ }
+// A length that is not 2 to `high`, or odd, at its offset: lines 7 and 8.
+fn wrong_size(high: usize, n: usize, at: usize) -> Found
+    ensures { λ r. ⌜ found r ≡ when (not (sizeRight 2 high n)) at ⌝ }
 {
-    if size_right(2, 64, size(file, 0)) {
+    if size_right(2, high, n) {
         Found::Nothing
     } else {
-        Found::At(6)
+        Found::At(at)
     }
 }
 
-// Line 8: windows: not 2 to 48, or odd.
-fn wrong_windows(file: &[u8]) -> Found
-    ensures { λ r. ⌜ found r ≡ line8 (now (file .entry)) ⌝ }
-{
-    if size_right(2, 48, size(file, 1)) {
-        Found::Nothing
-    } else {
-        Found::At(12)
-    }
-}
-
-// Lines 7 to 9, the last of them: caps or sheet not 2 × seats × windows, at that length.
+// Lines 7 to 9: seats and windows; and caps or sheet not 2 × seats × windows, at that length.
 pub fn check_lengths(file: &[u8]) -> Check
     ensures { λ r. ⌜ refused r ≡ firstOf (lengthLines (now (file .entry))) ⌝ }
 {
-    let seats = wrong_seats(file);
-    let windows = wrong_windows(file);
+    let seats = wrong_size(64, size(file, 0), 6);
+    let windows = wrong_size(48, size(file, 1), 12);
     first_of(7, seats, windows, wrong_entry(file, Test::Grids, 6))
 }

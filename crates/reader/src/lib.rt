@@ -1,24 +1,18 @@
 // Reads a day file: the refusal of the first line of the table that holds, or the day that it holds, in arrays whose unused cells are 0.
 ghost use mathlib.Core.Path.{_≡_};
-ghost use mathlib.Core.Option.{none};
-ghost use Rattle.dayfile.specs.Layout.{bookOf, sheetOf};
 ghost use Rattle.dayfile.specs.Table.{firstOf, readLines};
-ghost use Rattle.dayfile.specs.Memory.{refused, Holds, Reads, noBook};
+ghost use Rattle.dayfile.specs.Memory.{refused, Reads};
 use contents::check_contents;
-use day::day_of;
-use day::no_day;
 use dayfile::Check;
-use dayfile::Day;
 use dayfile::Reading;
+use fields::day::day_of;
+use fields::day::no_day;
 use lengths::check_lengths;
 use options::check_options;
 use values::check_values;
 
-pub mod arrays;
 pub mod contents;
-pub mod day;
 pub mod entries;
-pub mod fields;
 pub mod lengths;
 pub mod options;
 pub mod values;

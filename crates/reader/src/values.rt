@@ -3,14 +3,14 @@ ghost use mathlib.Core.Path.{_≡_};
 ghost use Prim.Native.Nat.{_<_};
 ghost use Rattle.dayfile.specs.Table.{outside, line10, line11, line12, firstOf, valueLines};
 ghost use Rattle.dayfile.specs.Memory.{found, refused};
-use crate::fields::field;
-use crate::fields::seats;
-use crate::fields::start;
-use crate::fields::windows;
 use dayfile::Check;
 use dayfile::Found;
 use dayfile::first_of;
 use dayfile::within;
+use fields::field;
+use fields::seats;
+use fields::start;
+use fields::windows;
 
 // The first of n fields from an offset on that is not low to high. Both bytes of a field lie before the end.
 fn outside(file: &[u8], at: usize, n: usize, low: usize, high: usize) -> Found

@@ -1,5 +1,4 @@
 // What the test programs share: text on the standard output, and a look at the bytes of a buffer.
-use dayfile::Check;
 use dayfile::Written;
 
 pub fn say_text(text: &[u8]) {
@@ -8,10 +7,6 @@ pub fn say_text(text: &[u8]) {
 
 pub fn say_number(n: usize) {
     io::print_decimal(1, n as u64);
-}
-
-pub fn say_cell(x: u16) {
-    say_number(x as usize);
 }
 
 fn say_byte(x: u8) {
@@ -33,17 +28,6 @@ pub fn say_refusal(number: u8, at: usize) {
     say_number(number as usize);
     say_text(b" at ");
     say_number(at);
-}
-
-pub fn say_check(c: Check) {
-    match c {
-        Check::Refused { number, at } => {
-            say_refusal(number, at);
-        }
-        Check::Sound => {
-            say_text(b"taken");
-        }
-    }
 }
 
 pub fn say_written(w: Written) {

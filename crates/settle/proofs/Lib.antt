@@ -1,3 +1,3 @@
--- Towards settled sheets: free credits handed out, routes played, and a loop that ends.
-pub mod Routes
+-- The laws that the functions' proofs cite.
+pub mod Playing
 pub mod Turns

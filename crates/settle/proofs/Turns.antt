@@ -1,81 +1,75 @@
--- A loop that plays an exchange in each turn, until none is left.
-use mathlib.Core.Path.{_≡_, fun-ext}
-use mathlib.Core.Bool.{true, false}
-use mathlib.Core.Logic.{inl, inr}
+-- A loop that plays an exchange path in each turn, until none is left. Assumes nothing.
+use mathlib.Core.Path.{_≡_, refl, fun-ext}
+use mathlib.Core.Bool.{true}
+use mathlib.Core.List.{List}
+use mathlib.Core.Logic.{_≢_, _⊎_, inl, inr}
 use Prim.Native.Nat.{ℕ, _<_}
-use Rattle.fairness.specs.Instance.{Instance, Sheet}
-use Rattle.fairness.specs.Exchange.{playAll, Settled}
+use Rattle.fairness.specs.Instance.{Instance}
+use Rattle.fairness.specs.Exchange.{Move, Path, playAll, improvesAt, tiesAt, Settled}
 use Rattle.fairness.proofs.Theorems.{path-plays, path-feasible, path-full, path-measure, measure}
 use Rattle.model.specs.Book.{Grid}
-use Rattle.model.proofs.Tests.{true-not-false}
-use Rattle.exchange.specs.declared.Exchange.{Exchange}
-use Rattle.exchange.specs.declared.Rule.the-variants.{Improves, TiesWrongly}
-use Rattle.exchange.specs.Search.{movesOf, Answers}
-use Rattle.terms.specs.declared.Terms.{Terms}
-use Rattle.terms.specs.Terms.{instanceIn, Told, Small}
-use Rattle.terms.proofs.Told.{small-proper, told-settled}
+use Rattle.sheet.specs.declared.Sheet.{Sheet}
+use Rattle.sheet.specs.Sheets.{credit}
+use Rattle.exchange.specs.declared.Kind.{Kind}
+use Rattle.exchange.specs.declared.Kind.the-variants.{None, Improving, WronglyTied}
+use Rattle.exchange.specs.declared.ExchangePath.{ExchangePath}
+use Rattle.exchange.specs.Paths.{movesOf, Answers}
+use Rattle.instance.specs.declared.Terms.{Terms}
+use Rattle.instance.specs.Terms.{instanceIn, Told, Small}
+use Rattle.instance.proofs.Told.{small-proper, shows-itself, shown-settled}
 use Rattle.fill.specs.Fills.{Full}
-use Rattle.settle.specs.Routes.{AllPlayable}
-use Rattle.settle.specs.Offers.{Offers}
-use Rattle.settle.proofs.Routes.{all-playable}
+use Rattle.settle.specs.Playing.{AllPlayable}
+use Rattle.settle.proofs.Playing.{all-playable}
 
--- ---- what two searches offer
+-- ---- the path of a turn
 
-module _ (I : Instance) (S : Sheet) (x : Exchange) (improving : Answers I S Improves x) where
-  -- the first found one
-  pub better : x .found ≡ true → Offers I S x
-  better e = record {
-    path = λ q. improving .some q .path;
-    wanted = λ q. inl (improving .some q .passes);
-    counted = improving .counted;
-    fair = λ q. absurd (true-not-false (x .found) e q);
-    ordered = λ q. absurd (true-not-false (x .found) e q);
-  }
+-- a path that is there leads from receiver to donor, and improves or ties wrongly
+abbrev Leads : Instance → (ℕ → ℕ → ℕ) → ℕ → ℕ → List Move → Type 0
+Leads I S g l ms = Path I S g l ms × ((improvesAt I S g l ≡ true) ⊎ (tiesAt I S g l ≡ true))
 
-  -- the first found none, so it is the second's
-  pub other : x .found ≡ false → (y : Exchange) → Answers I S TiesWrongly y → Offers I S y
-  other e y tying = record {
-    path = λ q. tying .some q .path;
-    wanted = λ q. inr (tying .some q .passes);
-    counted = tying .counted;
-    fair = λ q. improving .none e;
-    ordered = λ q. tying .none q;
-  }
+leads : (I : Instance) (S : ℕ → ℕ → ℕ) (k : Kind) (g l : ℕ) (ms : List Move) → k ≢ None → Answers I S k g l ms → Leads I S g l ms
+leads I S None g l ms d a = absurd (d refl)
+leads I S Improving g l ms d a = (a .path, inl (a .passes))
+leads I S WronglyTied g l ms d a = (a .1 .path, inr (a .1 .passes))
 
 -- ---- a turn
 
-module _ (t : Terms) (caps : Grid) (small : Small t caps) (S : Sheet) (full : Full (instanceIn t caps) S) where
+module _ (t : Terms) (caps : Grid) (small : Small t caps) (sheet : Sheet) (full : Full (instanceIn t caps) (credit sheet))
+    (x : ExchangePath) (answers : Answers (instanceIn t caps) (credit sheet) (x .kind) (x .receiver) (x .donor) (movesOf x)) where
   abbrev I : Instance
   I = instanceIn t caps
 
-  module _ (x : Exchange) (offers : Offers I S x) where
-    pub turn-playable : x .found ≡ true → AllPlayable S (movesOf (x .route))
-    turn-playable e =
-        all-playable I S (movesOf (x .route)) (small .ranged .seats-most) (small .ranged .windows-most) (small .caps-most)
-        (path-plays I S (x .receiver) (x .donor) (movesOf (x .route)) (offers .path e))
+  abbrev S : ℕ → ℕ → ℕ
+  S = credit sheet
 
-    module _ (e : x .found ≡ true) (T : Sheet) (q : (i j : ℕ) → T i j ≡ playAll S (movesOf (x .route)) i j) where
-      after : T ≡ playAll S (movesOf (x .route))
+  module _ (there : x .kind ≢ None) where
+    way : Leads I S (x .receiver) (x .donor) (movesOf x)
+    way = leads I S (x .kind) (x .receiver) (x .donor) (movesOf x) there answers
+
+    pub turn-playable : AllPlayable S (movesOf x)
+    turn-playable =
+        all-playable I S (movesOf x) (small .ranged .seats-most) (small .ranged .windows-most) (small .caps-most)
+        (path-plays I S (x .receiver) (x .donor) (movesOf x) (way .0))
+
+    module _ (T : ℕ → ℕ → ℕ) (q : (i j : ℕ) → T i j ≡ playAll S (movesOf x) i j) where
+      after : T ≡ playAll S (movesOf x)
       after = fun-ext (λ i. fun-ext (λ j. q i j))
 
       pub turn-full : Full I T
       turn-full =
           rw after (record {
-            feasible = path-feasible I S (x .receiver) (x .donor) (movesOf (x .route)) (offers .path e) (full .feasible);
-            unwasted = path-full I S (x .receiver) (x .donor) (movesOf (x .route)) (offers .path e) (full .unwasted);
+            feasible = path-feasible I S (x .receiver) (x .donor) (movesOf x) (way .0) (full .feasible);
+            unwasted = path-full I S (x .receiver) (x .donor) (movesOf x) (way .0) (full .unwasted);
           })
 
       pub turn-less : measure I T < measure I S
       turn-less =
-          rw after (path-measure I (small-proper t caps small) S (x .receiver) (x .donor) (movesOf (x .route)) (full .feasible)
-          (offers .path e) (offers .wanted e))
+          rw after
+          (path-measure I (small-proper t caps small) S (x .receiver) (x .donor) (movesOf x) (full .feasible) (way .0) (way .1))
 
-    -- no exchange is left
-    pub turn-last : x .found ≡ false → (J : Instance) → Told J t caps → Settled J S
-    turn-last e J told =
-        told-settled t caps J told S (record {
-          feasible = full .feasible;
-          full = full .unwasted;
-          fair = offers .fair e;
-          ordered = offers .ordered e;
-        })
+  -- no path is left
+  pub turn-last : x .kind ≡ None → (J : Instance) → Told J t caps → Settled J S
+  turn-last e J told =
+      let none = rw e at answers in
+      shown-settled t caps J told S sheet (shows-itself t sheet)
+      (record { feasible = full .feasible; full = full .unwasted; fair = none .0; ordered = none .1 })

@@ -5,8 +5,9 @@ use mathlib.Core.List.{List, [], _∷_, map}
 use Prim.Native.Nat.{ℕ, zero, suc, _≤_, _<_}
 use native.Mathlib.Decide.{ℕ-discrete}
 use native.Mathlib.Omega.{arith}
-use lib.ListN.{length, getD, set, take, replicate, length-set, length-take, length-map, List·getD-map}
+use lib.ListN.{length, getD, set, take, replicate, length-set, length-take, List·getD-map}
 use lib.Seq.{getD-set-same, getD-set-other, getD-take, ext-getD, take-nil}
+use Rattle.lists.proofs.Alls.{taken-at, taken-length}
 use Rattle.lists.proofs.Arrays.{zeros-at}
 use Rattle.fairness.specs.Sums.{sum}
 use Rattle.fairness.proofs.Sums.{sum-eq}
@@ -54,7 +55,7 @@ row-used : (n m : ℕ) (g : Grid) (i : ℕ) → i < n → getD (used n m g) i []
 unfolding used
 row-used n m g i l =
     let e : _≡_ {A = List ℕ} [] (take m []) = sym (take-nil m) in
-    ap (getD (map (take m) (take n g)) i) e ∙ List·getD-map (take m) (take n g) i [] ∙ ap (take m) (getD-take n g i [] l)
+    ap (getD (map (take m) (take n g)) i) e ∙ taken-at (take m) g n i [] l
 
 pub used-cell : (n m : ℕ) (g : Grid) (i j : ℕ) → i < n → j < m → cell (used n m g) i j ≡ cell g i j
 used-cell n m g i j l k = ap (λ (r : List ℕ). getD r j 0) (row-used n m g i l) ∙ getD-take m (getD g i []) j 0 k
@@ -72,7 +73,7 @@ used-placed n m g j l = sum-eq n _ _ (λ i k. used-cell n m g i j k l)
 pub used-shaped : (N M n m : ℕ) (g : Grid) → Shaped N M g → n ≤ N → m ≤ M → Shaped n m (used n m g)
 unfolding used
 used-shaped N M n m g p a b = record {
-  rows = length-map (take n g) (take m) ∙ length-take n g ∙ omega (arith, p .rows);
+  rows = taken-length (take m) g n (omega (arith, p .rows));
   row = λ i l. ap length (row-used n m g i l) ∙ length-take m (getD g i []) ∙ omega (arith, p .row i (omega arith));
 }
 

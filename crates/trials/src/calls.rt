@@ -1,10 +1,13 @@
 // Damaged files and books through all calls: their refusals agree, and none changes a byte.
 use dayfile::Book;
 use dayfile::Check;
+use dayfile::Day;
 use dayfile::Written;
 use marker::Marking;
+use marker::lines::MOVES_ROOM;
 use say::all_from;
 use say::front;
+use sheet::Caps;
 
 // What a call made of its input: a refusal's number, 0 where there was none, and whether that was right.
 pub struct Seen {
@@ -60,7 +63,7 @@ pub fn see_mark(file: &[u8], first: Check, moves: &mut [u8]) -> Seen {
 
 // Whether a file gets mark 4.
 pub fn settled(file: &[u8]) -> bool {
-    let mut moves = [255u8; 93];
+    let mut moves = [255u8; MOVES_ROOM];
     match marker::mark(file, &mut moves) {
         Marking::Refused { number: _, at: _ } => false,
         Marking::Wasteful { window: _, seat: _ } => false,
@@ -91,7 +94,7 @@ fn begins(text: &[u8], letter: u8) -> bool {
 // Whether the listing begins as it must, with `refused` or `seats`.
 pub fn lists(file: &[u8], refused: bool) -> bool {
     let mut out = [255u8; 3460];
-    let Written::Whole { length } = report::listing(file, &mut out) else {
+    let Written::Whole { length } = listing::listing(file, &mut out) else {
         return false;
     };
     let letter = if refused { b'r' } else { b's' };
@@ -101,7 +104,7 @@ pub fn lists(file: &[u8], refused: bool) -> bool {
 // Whether the listing refuses a buffer that is a byte short.
 pub fn lists_short(file: &[u8]) -> bool {
     let mut out = [255u8; 3452];
-    let Written::Refused { number, at } = report::listing(file, &mut out) else {
+    let Written::Refused { number, at } = listing::listing(file, &mut out) else {
         return false;
     };
     number == 16 && at == 3453 && all_from(&out, 0, 255)
@@ -112,20 +115,17 @@ pub fn written_again(file: &[u8], first: Check) -> bool {
     if !sound(first) {
         return true;
     }
-    let there = reader::has_sheet(file);
-    let caps = reader::read_caps(file);
-    let sheet = reader::read_sheet(file);
+    let read = reader::read(file);
     let mut out = [255u8; 128];
-    let w = writer::write(&mut out, reader::read_book(file), caps, there, sheet);
-    let Written::Whole { length } = w else {
+    let Written::Whole { length } = writer::write(&mut out, read.day) else {
         return false;
     };
     check::same(front(&out, length), file) && all_from(&out, length, 255)
 }
 
 // The writer's answer. What it writes, the reader takes.
-pub fn see_write(book: Book, caps: [[u16; 24]; 32], out: &mut [u8]) -> Seen {
-    match writer::write(out, book, caps, true, caps) {
+pub fn see_write(book: Book, caps: Caps, out: &mut [u8]) -> Seen {
+    match writer::write(out, Day::new(book, caps, true, caps)) {
         Written::Refused { number, at: _ } => Seen {
             number,
             right: all_from(out, 0, 255),

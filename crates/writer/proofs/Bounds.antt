@@ -14,12 +14,15 @@ use Rattle.model.specs.Lowest.{lowest}
 use Rattle.model.proofs.Lowest.{Lowest, Fails, lowest-fails, lowest-is, lowest-some, lowest-none}
 use Rattle.dayfile.specs.Table.{within, offset}
 use Rattle.model.specs.Book.{Grid}
+use Rattle.sheet.specs.Sheets.{noRow, gridOf}
+use Rattle.sheet.specs.declared.Sheet.{Sheet}
+use Rattle.sheet.proofs.Cells.{row-is}
 use Rattle.dayfile.specs.File.{flat}
 use Rattle.dayfile.specs.Memory.{sized, sizedGrid}
 use Rattle.dayfile.proofs.Tables.{sized-length, sized-at}
 use Rattle.dayfile.proofs.Grids.{sized-flat-length, sized-flat-none, sized-flat-more}
 use Rattle.dayfile.proofs.Search.{offset-none, offset-some, same-search}
-use Rattle.writer.specs.Lines.{outsideIn}
+use Rattle.writer.specs.Values.{outsideIn}
 
 lt-or-le : (a b : ℕ) → (a < b) ⊎ (b ≤ a)
 lt-or-le a b = elim (decLt a b) [ yes h ↦ inl h | no h ↦ inr (omega arith) ]
@@ -150,3 +153,8 @@ module _ (low high at m : ℕ) (g : Grid) where
       ap rows {x = n} {y = i + 1 + (n - (i + 1))} (omega arith)
       ∙ ap (λ (xs : List ℕ). outsideIn xs at low high) (r .split)
       ∙ outside-some-more low high at (flat (sizedGrid i m g)) (sized m (getD g i [])) (r .more) p h (row-at i ∙ k)
+
+-- a row of a sheet in memory
+pub row-of : (low high at m : ℕ) (s : Sheet) (i : ℕ)
+    → outsideIn (sized m (getD (s .rows) i noRow .cells)) (at + 2 * (i * m)) low high ≡ row low high at m (gridOf s) i
+row-of low high at m s i = ap (λ (xs : List ℕ). outsideIn (sized m xs) (at + 2 * (i * m)) low high) (sym (row-is s i))

@@ -1,7 +1,7 @@
--- The writer's lines on a book in memory are the table's lines at the file that would be written.
+-- The writer's lines on a day in memory are the table's lines at the file that would be written.
 -- Assumes nothing.
 use mathlib.Core.Bool.{Bool, true, false, not, _&&_}
-use mathlib.Core.List.{List, _∷_, _++_, append-assoc}
+use mathlib.Core.List.{List, [], _∷_, _++_, append-assoc}
 use mathlib.Core.Option.{Option, none, some}
 use mathlib.Core.Path.{_≡_, refl, sym, _∙_, ap, ap₂}
 use Prim.Native.Nat.{ℕ, _+_, _*_, _%_, _≤_, _<_}
@@ -11,14 +11,16 @@ use lib.Dec.{leb, eqb}
 use lib.ListN.{length, getD}
 use borrow.Author.Tests.{le-leb, lt-leb, eq-eqb, lt-ltb, le-ltb}
 use Rattle.model.specs.Lowest.{lowest, when}
-use Rattle.model.specs.Book.{Grid}
+use Rattle.sheet.specs.Sheets.{gridOf}
+use Rattle.sheet.specs.declared.Sheet.{Sheet}
 use Rattle.dayfile.specs.Layout.{field, entriesIn, contentsEnd, start, size, sizeAt, seatsIn, windowsIn}
-use Rattle.dayfile.specs.File.{Part, assemble, flat, fileOf}
-use Rattle.dayfile.specs.Table.{Line, line, refuse, firstOf, within, offset, sizeRight, outside}
+use Rattle.dayfile.specs.File.{Part, assemble, flat, optParts, partsOf, fileOf}
+use Rattle.dayfile.specs.Table.{Line, Refusal, line, refuse, firstOf, within, offset, sizeRight, outside}
 use Rattle.dayfile.specs.Table.{line7, line8, line10, line11, line12, line16}
 use Rattle.dayfile.specs.Table.{valueLines, optionLines, bufferLines, writeLines}
-use Rattle.dayfile.specs.Memory.{sized, sizedGrid, fileIn, front, Writes}
+use Rattle.dayfile.specs.Memory.{sized, sizedGrid, bookIn, fileIn, front, Writes}
 use Rattle.dayfile.specs.declared.Book as Memory
+use Rattle.dayfile.specs.declared.Day.{Day}
 use Rattle.dayfile.specs.declared.Written as Written
 use Rattle.dayfile.proofs.Tests.{within-high, yes-when, no-when}
 use Rattle.dayfile.proofs.Lines.{stop, on, stop-in, on-after, none-holds, none-parts}
@@ -29,9 +31,9 @@ use Rattle.dayfile.proofs.Fields.{fields-at}
 use Rattle.dayfile.proofs.Grids.{sized-flat-length}
 use Rattle.dayfile.proofs.Container.{nth, before, start-is, size-is, body-is}
 use Rattle.dayfile.proofs.Sound.{kept}
-use Rattle.store.specs.Stores.{entriesOf, partsIn}
-use Rattle.writer.specs.Lines.{outsideIn, countLines, valuesIn}
-use Rattle.store.proofs.Files.{parts-are, count-is, all}
+use Rattle.writer.specs.Stores.{entries, slotsIn}
+use Rattle.writer.specs.Values.{outsideIn}
+use Rattle.writer.proofs.Files.{partsIn, parts-count}
 
 -- ---- counts and sizes
 
@@ -58,15 +60,6 @@ size-within low high n =
     and-true true = refl
     and-true false = refl
 
--- the bounds that lines 7 and 8 let pass
-pub counts-pass : (b : Memory.Book) → firstOf (countLines b) ≡ none → (b .seats ≤ 32) × (b .windows ≤ 24)
-unfolding countLines
-counts-pass b e =
-    let n = none-holds (countLines b) e in (
-      within-high 1 32 (b .seats) (kept (within 1 32 (b .seats)) (sizeAt 0) (n .0)),
-      within-high 1 24 (b .windows) (kept (within 1 24 (b .windows)) (sizeAt 1) (n .1 .0)),
-    )
-
 -- ---- the body of an entry, searched in the file and in memory
 
 module _ (first : ℕ) (ps : List Part) (told : entriesIn first ≡ length ps) where
@@ -89,129 +82,192 @@ module _ (first : ℕ) (ps : List Part) (told : entriesIn first ≡ length ps) w
       ∙ same-search bad (λ i. not (within low high (getD xs i 0))) (length xs)
       (λ i l. ap (λ (x : ℕ). not (within low high x)) (here i l)))
 
-module _ (b : Memory.Book) (caps : Grid) (sheet : Grid) (t : Bool) where
+-- ---- a day
+
+module _ (d : Day) where
   abbrev ps : List Part
-  ps = all b caps sheet t
+  ps = partsIn d
 
   abbrev f : List ℕ
-  f = assemble (length ps) ps
+  f = assemble (length (partsIn d)) (partsIn d)
 
   abbrev n : ℕ
-  n = b .seats
+  n = d .book .seats
 
   abbrev m : ℕ
-  m = b .windows
+  m = d .book .windows
 
-  abbrev at : ℕ
-  at = contentsEnd (entriesOf t)
+  abbrev cells : List ℕ
+  cells = flat (sizedGrid n m (gridOf (d .caps)))
 
-  count-f : length ps ≡ entriesOf t
-  count-f = count-is b caps sheet t
+  -- the parts that are always there
+  record Three : Type 0 where
+    many : 3 ≤ length ps
+    classes : nth ps 0 .body ≡ sized n (d .book .classes)
+    supplies : nth ps 1 .body ≡ sized m (d .book .supplies)
+    caps : nth ps 2 .body ≡ cells
+    first : before ps 0 ≡ 0
+    second : before ps 1 ≡ n
+    third : before ps 2 ≡ n + m
+
+  three : Three
+  unfolding partsIn partsOf bookIn
+  three =
+      let l = sized-length n (d .book .classes) in
+      let k = sized-length m (d .book .supplies) in
+      record {
+        many = omega arith;
+        classes = refl;
+        supplies = refl;
+        caps = refl;
+        first = refl;
+        second = omega arith;
+        third = omega arith;
+      }
+
+  file-is : f ≡ fileIn d
+  unfolding fileIn fileOf partsIn
+  file-is = refl
+
+  size-of : (e : ℕ) → e < 3 → (xs : List ℕ) (k : ℕ) → nth ps e .body ≡ xs → length xs ≡ k → size f e ≡ 2 * k
+  size-of e h xs k q l =
+      size-is (length ps) ps refl e (omega (arith, three .many)) ∙ ap (λ (ys : List ℕ). 2 * length ys) q ∙ ap (λ (i : ℕ). 2 * i) l
 
   size-seats : size f 0 ≡ 2 * n
-  size-seats = let e = sized-length n (b .classes) in size-is (length ps) ps refl 0 (omega arith) ∙ omega arith
+  size-seats = size-of 0 (omega arith) (sized n (d .book .classes)) n (three .classes) (sized-length n (d .book .classes))
 
   size-windows : size f 1 ≡ 2 * m
-  size-windows = let e = sized-length m (b .supplies) in size-is (length ps) ps refl 1 (omega arith) ∙ omega arith
+  size-windows = size-of 1 (omega arith) (sized m (d .book .supplies)) m (three .supplies) (sized-length m (d .book .supplies))
 
-  seven : line7 f ≡ when (not (within 1 32 n)) (sizeAt 0)
+  size-line : (e high k : ℕ) → size f e ≡ 2 * k
+      → when (not (sizeRight 2 (2 * high) (size f e))) (sizeAt e) ≡ when (not (within 1 high k)) (sizeAt e)
+  size-line e high k q = ap (λ (x : Bool). when (not x) (sizeAt e)) (ap (sizeRight 2 (2 * high)) q ∙ size-within 1 high k)
+
+  pub seven : line7 (fileIn d) ≡ when (not (within 1 32 (d .book .seats))) (sizeAt 0)
   unfolding line7
-  seven = ap (λ (x : Bool). when (not x) (sizeAt 0)) (ap (sizeRight 2 64) size-seats ∙ size-within 1 32 n)
+  seven = ap line7 (sym file-is) ∙ size-line 0 32 n size-seats
 
-  eight : line8 f ≡ when (not (within 1 24 m)) (sizeAt 1)
+  pub eight : line8 (fileIn d) ≡ when (not (within 1 24 (d .book .windows))) (sizeAt 1)
   unfolding line8
-  eight = ap (λ (x : Bool). when (not x) (sizeAt 1)) (ap (sizeRight 2 48) size-windows ∙ size-within 1 24 m)
+  eight = ap line8 (sym file-is) ∙ size-line 1 24 m size-windows
 
-  ten : line10 f ≡ outsideIn (sized n (b .classes)) at 1 8
-  unfolding line10
-  ten =
-      let s = size-seats in
-      let c = count-f in
-      let l = sized-length n (b .classes) in
-      body-search (length ps) ps refl 0 (omega arith) (seatsIn f) at 1 8 (omega arith) (omega arith)
+  -- the bounds that lines 7 and 8 let pass
+  pub counts-pass : firstOf (line 7 (line7 (fileIn d)) ∷ line 8 (line8 (fileIn d)) ∷ []) ≡ none
+      → (d .book .seats ≤ 32) × (d .book .windows ≤ 24)
+  counts-pass e =
+      let h = none-holds (line 7 (line7 (fileIn d)) ∷ line 8 (line8 (fileIn d)) ∷ []) e in (
+        within-high 1 32 n (kept (within 1 32 n) (sizeAt 0) (sym seven ∙ h .0)),
+        within-high 1 24 m (kept (within 1 24 m) (sizeAt 1) (sym eight ∙ h .1 .0)),
+      )
 
-  eleven : line11 f ≡ outsideIn (sized m (b .supplies)) (at + 2 * n) 0 4095
-  unfolding line11
-  eleven =
-      let w = size-windows in
-      let c = count-f in
-      let l = sized-length n (b .classes) in
-      let k = sized-length m (b .supplies) in
-      body-search (length ps) ps refl 1 (omega arith) (windowsIn f) (at + 2 * n) 0 4095 (omega arith) (omega arith)
+  -- a body that is always there, searched in memory
+  search-body : (e : ℕ) → e < 3 → (xs : List ℕ) (k at low high : ℕ) → nth ps e .body ≡ xs → k ≡ length xs
+      → at ≡ contentsEnd (entries (slotsIn d)) + 2 * before ps e → outside f (start f e) k low high ≡ outsideIn xs at low high
+  search-body e h xs k at low high q l p =
+      let c = parts-count d in
+      let t = three in
+      body-search (length ps) ps refl e (omega (arith, t .many)) k at low high (l ∙ ap length (sym q)) (omega arith)
+      ∙ ap (λ (ys : List ℕ). outsideIn ys at low high) q
 
-  twelve : line12 f ≡ outsideIn (flat (sizedGrid n m caps)) (at + 2 * n + 2 * m) 0 4095
-  unfolding line12
-  twelve =
-      let s = size-seats in
-      let w = size-windows in
-      let c = count-f in
-      let l = sized-length n (b .classes) in
-      let k = sized-length m (b .supplies) in
-      let cells : seatsIn f * windowsIn f ≡ n * m = ap₂ (λ (x y : ℕ). x * y) (omega arith) (omega arith) in
-      let g = sized-flat-length n m caps in
-      body-search (length ps) ps refl 2 (omega arith) (seatsIn f * windowsIn f) (at + 2 * n + 2 * m) 0 4095 (cells ∙ sym g) (omega arith)
+  -- the first body starts at `at`
+  module _ (at : ℕ) (first : at ≡ contentsEnd (entries (slotsIn d))) where
+    ten : line10 f ≡ outsideIn (sized n (d .book .classes)) at 1 8
+    unfolding line10
+    ten =
+        let s = size-seats in
+        let l = sized-length n (d .book .classes) in
+        search-body 0 (omega arith) (sized n (d .book .classes)) (seatsIn f) at 1 8 (three .classes) (omega arith)
+        (omega (arith, first, three .first))
 
-  values-are : valueLines f ≡ valuesIn b caps at
-  unfolding valueLines valuesIn
-  values-are = rw (ten, eleven, twelve)
+    eleven : line11 f ≡ outsideIn (sized m (d .book .supplies)) (at + 2 * n) 0 4095
+    unfolding line11
+    eleven =
+        let w = size-windows in
+        let l = sized-length m (d .book .supplies) in
+        search-body 1 (omega arith) (sized m (d .book .supplies)) (windowsIn f) (at + 2 * n) 0 4095 (three .supplies) (omega arith)
+        (omega (arith, first, three .second))
 
-  lines-file : (room : ℕ) → countLines b ++ (valuesIn b caps at ++ (optionLines f ++ bufferLines room (length f))) ≡ writeLines f room
-  unfolding writeLines countLines
-  lines-file room =
-      let rest : List Line = optionLines f ++ bufferLines room (length f) in
-      ap₂ (λ (x y : Option ℕ). line 7 x ∷ line 8 y ∷ (valuesIn b caps at ++ rest)) (sym seven) (sym eight)
-      ∙ ap (λ (v : List Line). line 7 (line7 f) ∷ line 8 (line8 f) ∷ (v ++ rest)) (sym values-are)
+    twelve : line12 f ≡ outsideIn cells (at + 2 * n + 2 * m) 0 4095
+    unfolding line12
+    twelve =
+        let s = size-seats in
+        let w = size-windows in
+        let all : seatsIn f * windowsIn f ≡ n * m = ap₂ (λ (x y : ℕ). x * y) (omega arith) (omega arith) in
+        search-body 2 (omega arith) cells (seatsIn f * windowsIn f) (at + 2 * n + 2 * m) 0 4095 (three .caps)
+        (all ∙ sym (sized-flat-length n m (gridOf (d .caps)))) (omega (arith, first, three .third))
 
-  file-is : f ≡ fileIn b caps t sheet
-  unfolding fileIn fileOf partsIn
-  file-is = ap (λ (qs : List Part). assemble (length qs) qs) (sym (parts-are b caps sheet t))
+    pub values-are : valueLines (fileIn d)
+        ≡ line 10 (outsideIn (sized n (d .book .classes)) at 1 8)
+        ∷ line 11 (outsideIn (sized m (d .book .supplies)) (at + 2 * n) 0 4095)
+        ∷ line 12 (outsideIn cells (at + 2 * n + 2 * m) 0 4095)
+        ∷ []
+    unfolding valueLines
+    values-are = ap valueLines (sym file-is) ∙ rw (ten, eleven, twelve)
 
-  pub lines-are : (room : ℕ)
-      → (countLines b ++ valuesIn b caps (contentsEnd (entriesOf t)))
-      ++ (optionLines (fileIn b caps t sheet) ++ bufferLines room (length (fileIn b caps t sheet)))
-      ≡ writeLines (fileIn b caps t sheet) room
-  lines-are room =
-      append-assoc (countLines b) (valuesIn b caps at) (rest (fileIn b caps t sheet))
-      ∙ ap (λ (g : List ℕ). countLines b ++ (valuesIn b caps at ++ rest g)) (sym file-is)
-      ∙ lines-file room
-      ∙ ap (λ (g : List ℕ). writeLines g room) file-is
-    where
-      rest : List ℕ → List Line
-      rest g = optionLines g ++ bufferLines room (length g)
+-- the lines of values by what the code has at hand
+pub values-told : {b : Memory.Book} {caps : Sheet} (d : Day) {at : ℕ} → d .book ≡ b → d .caps ≡ caps
+    → at ≡ contentsEnd (entries (slotsIn d))
+    → line 10 (outsideIn (sized (b .seats) (b .classes)) at 1 8)
+    ∷ line 11 (outsideIn (sized (b .windows) (b .supplies)) (at + 2 * b .seats) 0 4095)
+    ∷ line 12 (outsideIn (flat (sizedGrid (b .seats) (b .windows) (gridOf caps))) (at + 2 * b .seats + 2 * b .windows) 0 4095)
+    ∷ []
+    ≡ valueLines (fileIn d)
+values-told d {at} e f g =
+    ap₂ (λ (x : Memory.Book) (y : Sheet).
+    line 10 (outsideIn (sized (x .seats) (x .classes)) at 1 8)
+    ∷ line 11 (outsideIn (sized (x .windows) (x .supplies)) (at + 2 * x .seats) 0 4095)
+    ∷ line 12 (outsideIn (flat (sizedGrid (x .seats) (x .windows) (gridOf y))) (at + 2 * x .seats + 2 * x .windows) 0 4095)
+    ∷ []) (sym e) (sym f)
+    ∙ sym (values-are d at g)
 
 -- ---- what the writer answers, by where its refusal comes from
 
-module _ (b : Memory.Book) (caps : Grid) (sheet : Grid) (t : Bool) where
-  abbrev lines : List Line
-  lines = countLines b ++ valuesIn b caps (contentsEnd (entriesOf t))
-
+module _ (d : Day) where
   abbrev whole : List ℕ
-  whole = fileIn b caps t sheet
+  whole = fileIn d
 
-  abbrev rest : ℕ → List Line
-  rest room = optionLines whole ++ bufferLines room (length whole)
+  abbrev pub counts : List Line
+  counts = line 7 (line7 (fileIn d)) ∷ line 8 (line8 (fileIn d)) ∷ []
+
+  -- all lines but 16
+  abbrev pub linesOf : List Line
+  linesOf = line 7 (line7 (fileIn d)) ∷ line 8 (line8 (fileIn d)) ∷ (valueLines (fileIn d) ++ optionLines (fileIn d))
+
+  -- group by group
+  pub stop-counts : {q : Refusal} → firstOf counts ≡ some q → firstOf linesOf ≡ some q
+  stop-counts {q} e = stop-in counts (valueLines whole ++ optionLines whole) q e
+
+  pub stop-values : {q : Refusal} → firstOf counts ≡ none → firstOf (valueLines (fileIn d)) ≡ some q → firstOf linesOf ≡ some q
+  stop-values {q} e h = on-after counts (valueLines whole ++ optionLines whole) e ∙ stop-in (valueLines whole) (optionLines whole) q h
+
+  pub go-on : firstOf counts ≡ none → firstOf (valueLines (fileIn d)) ≡ none → firstOf linesOf ≡ firstOf (optionLines (fileIn d))
+  go-on e h = on-after counts (valueLines whole ++ optionLines whole) e ∙ on-after (valueLines whole) (optionLines whole) h
+
+  lines-are : (room : ℕ) → writeLines whole room ≡ linesOf ++ bufferLines room (length whole)
+  unfolding writeLines
+  lines-are room =
+      ap (λ (ls : List Line). counts ++ ls) (sym (append-assoc (valueLines whole) (optionLines whole) (bufferLines room (length whole))))
+
+  pub lines-pass : firstOf linesOf ≡ none → (d .book .seats ≤ 32) × (d .book .windows ≤ 24)
+  lines-pass e = counts-pass d (none-parts counts (valueLines whole ++ optionLines whole) e .0)
 
   -- what `write` ensures
-  abbrev pub Answer : List ℕ → Written.Written → List ℕ → Type 0
-  Answer buf r end = Writes (writeLines (fileIn b caps t sheet)) (fileIn b caps t sheet) buf r end
-
-  pub book-pass : firstOf (countLines b ++ valuesIn b caps (contentsEnd (entriesOf t))) ≡ none → (b .seats ≤ 32) × (b .windows ≤ 24)
-  book-pass e = counts-pass b (none-parts (countLines b) (valuesIn b caps (contentsEnd (entriesOf t))) e .0)
+  abbrev pub Answer : List ℕ → List ℕ → Written.Written → Type 0
+  Answer buf end r = Writes (writeLines (fileIn d)) (fileIn d) buf end r
 
   -- a line ahead of 16 holds
-  pub early : (buf : List ℕ) {n p : ℕ} → firstOf (countLines b ++ valuesIn b caps (contentsEnd (entriesOf t))) ≡ some (refuse n p)
-      → Answer buf (Written.the-variants.Refused n p) buf
+  pub early : (buf : List ℕ) {n p : ℕ} → firstOf linesOf ≡ some (refuse n p) → Answer buf buf (Written.the-variants.Refused n p)
   early buf {n} {p} e =
       writes-refused (writeLines whole) whole buf n p
-      (ap firstOf (sym (lines-are b caps sheet t (length buf))) ∙ stop-in lines (rest (length buf)) (refuse n p) e)
+      (ap firstOf (lines-are (length buf)) ∙ stop-in linesOf (bufferLines (length buf) (length whole)) (refuse n p) e)
 
-  late : (room : ℕ) → firstOf lines ≡ none → firstOf (writeLines whole room) ≡ firstOf (rest room)
-  late room e = ap firstOf (sym (lines-are b caps sheet t room)) ∙ on-after lines (rest room) e
+  late : (room : ℕ) → firstOf linesOf ≡ none → firstOf (writeLines whole room) ≡ firstOf (bufferLines room (length whole))
+  late room e = ap firstOf (lines-are room) ∙ on-after linesOf (bufferLines room (length whole)) e
 
   -- 16 holds
-  pub no-room : (buf : List ℕ) {k : ℕ} → firstOf (countLines b ++ valuesIn b caps (contentsEnd (entriesOf t))) ≡ none
-      → k ≡ length (fileIn b caps t sheet) → length buf < k → Answer buf (Written.the-variants.Refused 16 k) buf
-  unfolding optionLines bufferLines line16
+  pub no-room : (buf : List ℕ) {k : ℕ} → firstOf linesOf ≡ none → k ≡ length (fileIn d) → length buf < k
+      → Answer buf buf (Written.the-variants.Refused 16 k)
+  unfolding bufferLines line16
   no-room buf {k} e q h =
       let n : ℕ = length whole in
       writes-refused (writeLines whole) whole buf 16 k
@@ -220,10 +276,9 @@ module _ (b : Memory.Book) (caps : Grid) (sheet : Grid) (t : Bool) where
       ∙ ap (λ (x : ℕ). some (refuse 16 x)) (sym q))
 
   -- no line holds
-  pub enough : (buf end : List ℕ) {k : ℕ} → firstOf (countLines b ++ valuesIn b caps (contentsEnd (entriesOf t))) ≡ none
-      → k ≡ length (fileIn b caps t sheet) → k ≤ length buf → end ≡ front (fileIn b caps t sheet) buf
-      → Answer buf (Written.the-variants.Whole k) end
-  unfolding optionLines bufferLines line16
+  pub enough : (buf end : List ℕ) {k : ℕ} → firstOf linesOf ≡ none → k ≡ length (fileIn d) → k ≤ length buf
+      → end ≡ front (fileIn d) buf → Answer buf end (Written.the-variants.Whole k)
+  unfolding bufferLines line16
   enough buf end {k} e q h f =
       let n : ℕ = length whole in
       writes-whole (writeLines whole) whole buf end k

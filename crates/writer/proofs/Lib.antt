@@ -1,2 +1,5 @@
+pub mod Storing
+pub mod Files
+pub mod Slots
 pub mod Bounds
 pub mod Checks

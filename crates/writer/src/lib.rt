@@ -1,33 +1,59 @@
-// Writes the day file of a book in memory, with or without a sheet, to the front of an output buffer.
+// Writes the day file of a day in memory to the front of an output buffer.
+ghost use mathlib.Core.Path.{_≡_};
+ghost use Prim.Native.Nat.{_≤_};
+ghost use lib.ListN.{length};
 ghost use Rattle.dayfile.specs.Table.{writeLines};
-ghost use Rattle.dayfile.specs.Memory.{fileIn, Writes};
+ghost use Rattle.dayfile.specs.Memory.{fileIn, front, Writes};
+ghost use Rattle.dayfile.specs.declared.Day.{Day};
+ghost use Rattle.writer.specs.Stores.{Of};
+use bodies::put_book;
+use bodies::put_options;
+use contents::count_entries;
+use contents::count_fields;
+use contents::put_contents;
+use contents::slots_of;
 use dayfile::Book;
 use dayfile::Check;
+use dayfile::Day;
 use dayfile::Written;
-use lines::check_book;
-use store::file_length;
-use store::put_file;
+use lines::check_day;
 
+pub mod bodies;
+pub mod contents;
 pub mod lines;
+pub mod numbers;
+
+// The length of the file of a book with or without a sheet, whatever its caps and its sheet.
+pub fn file_length(book: Book, has_sheet: bool) -> usize
+    requires { ⌜ (book .seats ≤ 32) × (book .windows ≤ 24) ⌝ }
+    ensures { λ r. ⌜ ((d : Day) → Of book «has_sheet» d → r ≡ length (fileIn d)) ⌝ }
+{
+    let slots = slots_of(book, has_sheet);
+    2 + 6 * count_entries(slots) + 2 * count_fields(slots)
+}
+
+// The file at the front of a buffer that is long enough.
+pub fn put_file(out: &mut [u8], day: Day) -> usize
+    requires { ⌜ (day .book .seats ≤ 32) × (day .book .windows ≤ 24) × (length (fileIn day) ≤ length (now out)) ⌝ }
+    ensures length { λ r. ⌜ r ≡ length (fileIn day) ⌝ }
+    ensures file { λ r. ⌜ now (out .exit) ≡ front (fileIn day) (now (out .entry)) ⌝ }
+{
+    let p = put_contents(out, slots_of(day.book, day.has_sheet));
+    let p = put_book(out, p, day.book, day.caps);
+    put_options(out, p, day)
+}
 
 // The file at the front of any buffer, or the refusal.
-pub fn write(
-    out: &mut [u8],
-    book: Book,
-    caps: [[u16; 24]; 32],
-    there: bool,
-    sheet: [[u16; 24]; 32],
-) -> Written
-    ensures { λ r. ⌜ Writes (writeLines (fileIn book caps there sheet)) (fileIn book caps there sheet)
-        (now (out .entry)) r (now (out .exit)) ⌝ }
+pub fn write(out: &mut [u8], day: Day) -> Written
+    ensures { λ r. ⌜ Writes (writeLines (fileIn day)) (fileIn day) (now (out .entry)) (now (out .exit)) r ⌝ }
 {
-    if let Check::Refused { number, at } = check_book(book, caps, there) {
+    if let Check::Refused { number, at } = check_day(day) {
         return Written::Refused { number, at };
     }
-    let n = file_length(book, there);
+    let n = file_length(day.book, day.has_sheet);
     if out.len() < n {
         return Written::Refused { number: 16, at: n };
     }
-    put_file(out, book, caps, there, sheet);
+    put_file(out, day);
     Written::Whole { length: n }
 }

@@ -70,19 +70,6 @@ returns-3 c =
 
 pub find-path-spec : {M : Type 1} → statement M
 find-path-spec =
-    tie.close
-    (tie.spec
-    (λ c κs. c .pre .0 .ranged)
-    (λ c κs. c .before .pre .0 .ranged)
-    first-pair-requires
-    (λ c. search needs)
-    path-to-requires
-    returns
-    (λ c. search needs)
-    first-pair-requires-2
-    (λ c. search needs)
-    path-to-requires-2
-    returns-2
-    (λ c. search needs)
-    (λ c κs. search needs)
-    returns-3)
+    tie.close (tie.spec (λ c κs. c .pre .0 .ranged) (λ c κs. c .before .pre .0 .ranged) first-pair-requires (λ c. search needs)
+    path-to-requires returns (λ c. search needs) first-pair-requires-2 (λ c. search needs) path-to-requires-2 returns-2 (λ c. search needs)
+    (λ c κs. search needs) returns-3)

@@ -6,10 +6,11 @@ use native.Mathlib.Omega.{arith}
 use lib.ListN.{length, take, drop, replicate, length-set}
 use mir.Val.{Fits}
 use mir.Syntax.{w32}
+use Rattle.lists.proofs.Alls.{taken-length}
+use Rattle.sheet.specs.Sheets.{moveOf}
 use Rattle.masks.proofs.Laws.{in-small}
 use Rattle.reach.specs.Graphs.{setAt, Fewest}
-use Rattle.reach.proofs.Members.{at-small}
-use Rattle.exchange.proofs.Routes.{Walk, back, back-fewest, step-back, stored-none, stored-length, walked}
+use Rattle.exchange.proofs.Routes.{Walk, back, back-fewest, step-back, stored-none, walked}
 use Rattle.exchange.proofs.moves_to.Statement.{statement}
 use Rattle.exchange.proofs.moves_to.Tie as tie
 
@@ -81,23 +82,11 @@ returns c =
     let all = take (start .args .count) (at .moves) in
     let z : at .r ≡ 0 = omega arith in
     record {
-      counted = stored-length (at .moves) _ few;
+      counted = taken-length moveOf (at .moves) _ few;
       path = λ I S g d layers. walked I S (start .args .graph) d _ g _ _ _ all layers z (at .inv .1 .1 .1 .0) (at .inv .1 .1 .1 .1);
     }
 
 pub moves-to-spec : {M : Type 1} → statement M
 moves-to-spec =
-    tie.close
-    (tie.spec
-    Inv-loop
-    μ-loop
-    loop-holds
-    (λ c. search needs)
-    mul-move-from
-    array-read-move-from
-    move-from-requires
-    mul-moves
-    array-set-from-moves
-    (λ c. search needs)
-    loop-again
-    returns)
+    tie.close (tie.spec Inv-loop μ-loop loop-holds (λ c. search needs) mul-move-from array-read-move-from move-from-requires mul-moves
+    array-set-from-moves (λ c. search needs) loop-again returns)

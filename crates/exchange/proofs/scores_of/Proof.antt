@@ -2,22 +2,23 @@
 use Prim.Native.Nat.{_-_}
 use native.Mathlib.Omega.{arith}
 use mathlib.Core.Path.{refl}
+use Rattle.lists.proofs.Arrays.{filled-first, filled-next}
 use Rattle.sheet.specs.Sheets.{credit}
 use Rattle.sheet.proofs.Shapes.{credit-small}
 use Rattle.sheet.proofs.Sums.{sum-bound}
-use Rattle.exchange.proofs.Heights.{Known, first, next, scored}
+use Rattle.exchange.proofs.Heights.{Known, scored}
 use borrow.Author.Needs.{needs}
 use Rattle.exchange.proofs.scores_of.Statement.{statement}
 use Rattle.exchange.proofs.scores_of.Tie as tie
 
 abbrev Inv-loop : tie.InvT-loop
-Inv-loop sheet seats windows bases weights positions heights₀ i₀ heights i = Known sheet seats windows bases i heights
+Inv-loop sheet seats windows bases weights positions heights₀ i₀ heights i = Known sheet seats windows bases heights₀ i heights
 
 abbrev μ-loop : tie.MeasureT-loop
 μ-loop sheet seats windows bases weights positions heights₀ i₀ heights i = seats - i
 
 loop-holds : tie.Need-loop-holds Inv-loop μ-loop
-loop-holds c = first _ _ _ _ _ refl
+loop-holds c = filled-first refl (search needs)
 
 add-heights : tie.Need-add-heights Inv-loop μ-loop
 add-heights c =
@@ -30,32 +31,15 @@ add-heights c =
     omega (arith, cells, base, c .total .ensures, b .pre .windows-most)
 
 loop-again : tie.Need-loop-again Inv-loop μ-loop
-loop-again c =
-    let a = c .before .before .before .before .before .before .args in
-    let l = c .before .before .loop in
-    next (a .sheet) (a .t .seats) (a .t .windows) (a .t .bases) (l .i) _ (l .heights) (l .inv) (search needs) (search needs)
-    (omega (arith, c .total .ensures))
+loop-again c = filled-next (c .before .before .loop .inv) (search needs) (omega (arith, c .total .ensures))
 
 returns : tie.Need-returns Inv-loop μ-loop
 returns c =
     let a = c .before .before .before .before .before .args in
     let l = c .before .loop in
-    scored (a .sheet) (a .t) (l .i) (l .heights) (search needs) (l .inv)
+    scored (a .sheet) (a .t) (l .i) _ (l .heights) (search needs) (l .inv)
 
 pub scores-of-spec : {M : Type 1} → statement M
 scores-of-spec =
-    tie.close
-    (tie.spec
-    Inv-loop
-    μ-loop
-    loop-holds
-    (λ c. search needs)
-    (λ c. search needs)
-    (λ c κs. search needs)
-    add-heights
-    (λ c. search needs)
-    (λ c. search needs)
-    (λ c. search needs)
-    (λ c. search needs)
-    loop-again
-    returns)
+    tie.close (tie.spec Inv-loop μ-loop loop-holds (λ c. search needs) (λ c. search needs) (λ c κs. search needs) add-heights
+    (λ c. search needs) (λ c. search needs) (λ c. search needs) (λ c. search needs) loop-again returns)

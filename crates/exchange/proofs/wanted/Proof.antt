@@ -11,13 +11,5 @@ returns-3 c = rw (c .before .enum-told3 .given .1) (c .ties-wrongly .ensures)
 
 pub wanted-spec : {M : Type 1} → statement M
 wanted-spec =
-    tie.close
-    (tie.spec
-    (λ c. search needs)
-    (λ c. search needs)
-    (λ c κs. search needs)
-    (λ c. search needs)
-    (λ c κs. search needs)
-    (λ c. search needs)
-    returns-2
-    returns-3)
+    tie.close (tie.spec (λ c. search needs) (λ c. search needs) (λ c κs. search needs) (λ c. search needs) (λ c κs. search needs)
+    (λ c. search needs) returns-2 returns-3)

@@ -7,9 +7,5 @@ use Rattle.masks.proofs.full.Tie as tie
 
 pub full-spec : {M : Type 1} → statement M
 full-spec =
-    tie.close
-    (tie.spec
-    (λ c. search needs)
-    (λ c. omega (arith, power-is (c .args .n) (c .pre)))
-    (λ c. omega (arith, power-is (c .args .n) (c .pre)))
-    (λ c. full-is (c .args .n) (c .pre)))
+    tie.close (tie.spec (λ c. search needs) (λ c. omega (arith, power-is (c .args .n) (c .pre)))
+    (λ c. omega (arith, power-is (c .args .n) (c .pre))) (λ c. full-is (c .args .n) (c .pre)))

@@ -1,58 +1,86 @@
--- `planner::plan` meets its contract: what is checked, planned and written.
-use mathlib.Core.Path.{_∙_}
+-- `planner::plan` meets its contract: what is read, planned and written.
+use mathlib.Core.Path.{_≡_, refl, sym, subst, _∙_}
+use mathlib.Core.Option.{none}
+use Prim.Native.Nat.{_≤_}
 use native.Mathlib.Nat.{le-trans, le-of-eq}
 use native.Mathlib.Omega.{arith}
 use borrow.Author.Needs.{needs}
-use Rattle.dayfile.specs.Layout.{bookOf}
-use Rattle.dayfile.proofs.Answers.{refuses, passes}
-use Rattle.planner.proofs.Steps.{fit-of, read-free, plan-refused, plan-whole, need-is, planned-is, room-enough}
+use denote.Ref.{now}
+use Rattle.fairness.specs.Exchange.{Settled}
+use Rattle.model.specs.Book.{Grid, instanceOf}
+use Rattle.dayfile.specs.Bounds.{Fit}
+use Rattle.dayfile.specs.declared.Day.{Day}
+use Rattle.dayfile.specs.Table.{firstOf, readLines, plannedLength}
+use Rattle.dayfile.specs.Memory.{bookIn, dayBook}
+use Rattle.dayfile.proofs.Held.{seats-in, windows-in}
+use Rattle.dayfile.proofs.Readings.{read-refused, read-sound, read-fits}
+use Rattle.sheet.specs.Sheets.{credit, gridOf}
+use Rattle.planner.proofs.Steps.{planned-size, planned-is, plan-refused, plan-short, plan-whole}
 use Rattle.planner.proofs.plan.Statement.{statement}
 use Rattle.planner.proofs.plan.Tie as tie
 
+-- a day that fits is in the arrays' ranges
+sized : (d : Day) → Fit (dayBook d) → (d .book .seats ≤ 32) × (d .book .windows ≤ 24)
+sized d fit =
+    (omega (arith, seats-in (d .book) (gridOf (d .caps)), fit .seats-high), omega (arith, windows-in (d .book) (gridOf (d .caps)), fit .windows-high))
+
 returns : tie.Need-returns
-returns c = plan-refused _ _ _ _ (refuses (c .before .before .before .plan-check .ensures) (c .before .number .given .1))
+returns c = plan-refused _ _ _ _ (read-refused _ _ (c .before .before .before .read .ensures) (c .before .check .given .1))
 
-planned-sheet-requires : tie.Need-planned-sheet-requires
-planned-sheet-requires c κs =
-    let read = c .before in
-    let free = passes (read .before .before .before .plan-check .ensures) (read .before .enum-told .given .1) in
-    record {
-      book = bookOf _;
-      fit = fit-of _ (read-free _ _ free);
-      holds = read .read-book .ensures;
-      caps-are = c .read-caps .ensures;
-    }
+-- no line of the reader's holds
+free : (c : tie.After-caps) → let start = c .before .before .before .before .before .before .before .before in
+    firstOf (readLines (now (start .args .file))) ≡ none
+free c = read-sound _ _ (c .before .before .before .before .before .read .ensures) (c .before .before .before .enum-told .given .1)
 
-put-file-requires : tie.Need-put-file-requires
-put-file-requires c κs =
-    let sheet = c .before in
-    let caps = sheet .before in
-    let read = caps .before in
-    let free = passes (read .before .before .before .plan-check .ensures) (read .before .enum-told .given .1) in
-    let fit = fit-of _ (read-free _ _ free) in
-    let holds = read .read-book .ensures in
-    let grid = sheet .planned-sheet .result in
-    let long = need-is _ (read .read-book .result) fit holds (caps .read-caps .result) grid (caps .read-caps .ensures) in (
-      omega (arith, fit .seats-high, holds .seats-are),
-      omega (arith, fit .windows-high, holds .windows-are),
-      le-trans (le-of-eq long) (room-enough _ _ free),
-    )
+file-length-requires : tie.Need-file-length-requires
+file-length-requires c κs =
+    let d = c .before .before .before .before .before .read .result .day in
+    sized d (read-fits _ _ (c .before .before .before .before .before .read .ensures) (free c))
+
+-- how long the planned file is
+needed : (c : tie.After-file-length) →
+    let d = c .before .before .before .before .before .before .read .result .day in
+    c .file-length .result ≡ plannedLength (dayBook d)
+needed c =
+    let d = c .before .before .before .before .before .before .read .result .day in
+    c .file-length .ensures _ (record { book-is = refl; sheet-is = refl }) ∙ planned-size d (d .sheet)
 
 returns-2 : tie.Need-returns-2
 returns-2 c =
+    let n = c .before in
+    let k = n .before in
+    plan-short _ _ _ (k .before .before .before .before .before .read .ensures) (free k) _ (needed n) (c .if1 .taken)
+
+planned-sheet-requires : tie.Need-planned-sheet-requires
+planned-sheet-requires c κs =
+    let k = c .before .before .before in
+    let read = k .before .before .before .before .before .read in
+    subst (λ (g : Grid). Fit (bookIn (read .result .day .book) g)) (sym (c .to-grid .ensures)) (read-fits _ _ (read .ensures) (free k))
+
+put-file-requires : tie.Need-put-file-requires
+put-file-requires c κs =
+    let n = c .before .before .before .before in
+    let k = n .before in
+    let read = k .before .before .before .before .before .read in
+    let d = read .result .day in
+    let size = sized d (read-fits _ _ (read .ensures) (free k)) in
+    let long = planned-size d (c .before .planned-sheet .result) ∙ sym (needed n) in
+    (size .0, size .1, le-trans (le-of-eq long) (c .before .before .before .if1 .left))
+
+returns-3 : tie.Need-returns-3
+returns-3 c =
     let put = c .before .before in
     let sheet = put .before .before in
-    let caps = sheet .before in
-    let read = caps .before in
-    let free = passes (read .before .before .before .plan-check .ensures) (read .before .enum-told .given .1) in
-    let fit = fit-of _ (read-free _ _ free) in
-    let holds = read .read-book .ensures in
-    let caps-are = caps .read-caps .ensures in
-    let grid = sheet .planned-sheet .result in
-    let need = need-is _ (read .read-book .result) fit holds (caps .read-caps .result) grid caps-are in
-    plan-whole _ _ _ _ free (put .put-file .ensures .0 ∙ need)
-    (planned-is _ (read .read-book .result) fit holds (caps .read-caps .result) grid caps-are
-    (sheet .planned-sheet .ensures _ holds caps-are) _ _ (put .put-file .ensures .1))
+    let n = sheet .before .before .before in
+    let k = n .before in
+    let read = k .before .before .before .before .before .read in
+    let d = read .result .day in
+    let planned = sheet .planned-sheet .result in
+    let settled = subst (λ (g : Grid). Settled (instanceOf (bookIn (d .book) g)) (credit planned)) (sheet .before .to-grid .ensures)
+    (sheet .planned-sheet .ensures) in
+    plan-whole _ _ _ (read .ensures) (free k) _ (needed n) (sheet .before .before .if1 .left) _ _
+    (put .put-file .ensures .0 ∙ planned-size d planned ∙ sym (needed n))
+    (planned-is d planned settled _ _ (put .put-file .ensures .1))
 
 pub plan-spec : {M : Type 1} → statement M
 plan-spec =
@@ -62,9 +90,10 @@ plan-spec =
     (λ c. search needs)
     returns
     (λ c. search needs)
-    (λ c κs. search needs)
+    file-length-requires
+    returns-2
     (λ c κs. search needs)
     planned-sheet-requires
     put-file-requires
     (λ c. search needs)
-    returns-2)
+    returns-3)

@@ -5,7 +5,6 @@ use mathlib.Core.Logic.{⊎-elim}
 use native.Mathlib.Omega.{arith}
 use borrow.Author.Count.{below-more}
 use lib.ListN.{length}
-use Rattle.masks.proofs.Laws.{in-pos}
 use Rattle.reach.specs.Graphs.{Meets}
 use Rattle.reach.proofs.Members.{has-in, has-out, at-small, meeting, not-meeting}
 use Rattle.reach.proofs.first_meeting.Statement.{statement}
@@ -44,17 +43,5 @@ returns-2 c =
 
 pub first-meeting-spec : {M : Type 1} → statement M
 first-meeting-spec =
-    tie.close
-    (tie.spec
-    Inv-loop
-    μ-loop
-    (λ c. search needs)
-    (λ c κs. search needs)
-    (λ c. search needs)
-    (λ c. search needs)
-    (λ c κs. search needs)
-    returns
-    (λ c. search needs)
-    (λ c. search needs)
-    loop-again
-    returns-2)
+    tie.close (tie.spec Inv-loop μ-loop (λ c. search needs) (λ c κs. search needs) (λ c. search needs) (λ c. search needs)
+    (λ c κs. search needs) returns (λ c. search needs) (λ c. search needs) loop-again returns-2)

@@ -1,12 +1,10 @@
 -- `reach::outward` meets its contract.
 use borrow.Author.Needs.{needs}
 use mathlib.Core.Path.{_≡_}
-use Prim.Native.Nat.{ℕ}
 use native.Mathlib.Omega.{arith}
 use lib.ListN.{length}
 use mir.Val.{Fits}
 use mir.Syntax.{w32}
-use Rattle.masks.specs.Sets.{In}
 use Rattle.masks.proofs.Laws.{bit-lt, in-small}
 use Rattle.reach.proofs.Waves.{grown, spread}
 use Rattle.reach.proofs.outward.Statement.{statement}
@@ -41,14 +39,5 @@ returns c =
 
 pub outward-spec : {M : Type 1} → statement M
 outward-spec =
-    tie.close
-    (tie.spec
-    (λ c. search needs)
-    union-over-requires
-    (λ c κs. search needs)
-    (λ c. search needs)
-    union-over-requires-2
-    (λ c κs. search needs)
-    (λ c κs. search needs)
-    (λ c κs. search needs)
-    returns)
+    tie.close (tie.spec (λ c. search needs) union-over-requires (λ c κs. search needs) (λ c. search needs) union-over-requires-2
+    (λ c κs. search needs) (λ c κs. search needs) (λ c κs. search needs) returns)

@@ -1,6 +1,5 @@
 -- `reach::union_over` meets its contract.
 use borrow.Author.Needs.{needs}
-use mathlib.Core.Path.{_≡_}
 use Prim.Native.Nat.{_<_}
 use native.Mathlib.Omega.{arith}
 use lib.ListN.{length}
@@ -44,16 +43,5 @@ returns c = last _ _ _ _ (c .before .loop .inv) (c .loop-test .left)
 
 pub union-over-spec : {M : Type 1} → statement M
 union-over-spec =
-    tie.close
-    (tie.spec
-    Inv-loop
-    μ-loop
-    (λ c. first _ _)
-    (λ c κs. search needs)
-    (λ c κs. search needs)
-    mul-union
-    shared-slice-read-union
-    (λ c κs. search needs)
-    loop-less
-    loop-again
-    returns)
+    tie.close (tie.spec Inv-loop μ-loop (λ c. first _ _) (λ c κs. search needs) (λ c κs. search needs) mul-union shared-slice-read-union
+    (λ c κs. search needs) loop-less loop-again returns)

@@ -1,6 +1,6 @@
-use mathlib.Core.Path.{sym, _∙_, ap}
+use mathlib.Core.Path.{sym, _∙_}
 use borrow.Author.Needs.{needs}
-use Rattle.dayfile.specs.Table.{firstOf, contentsLines, lengthLines, valueLines, optionLines, readLines}
+use Rattle.dayfile.specs.Table.{contentsLines, lengthLines, valueLines, readLines}
 use Rattle.dayfile.proofs.Lines.{stop-in, on-after}
 use Rattle.dayfile.proofs.Answers.{refuses, passes}
 use Rattle.reader.proofs.read_check.Statement.{statement}
@@ -39,19 +39,6 @@ returns-4 c =
 
 pub read-check-spec : {M : Type 1} → statement M
 read-check-spec =
-    tie.close
-    (tie.spec
-    (λ c κs. search needs)
-    (λ c. search needs)
-    returns
-    (λ c. search needs)
-    (λ c κs. search needs)
-    (λ c. search needs)
-    returns-2
-    (λ c. search needs)
-    (λ c κs. search needs)
-    (λ c. search needs)
-    returns-3
-    (λ c. search needs)
-    (λ c κs. search needs)
+    tie.close (tie.spec (λ c κs. search needs) (λ c. search needs) returns (λ c. search needs) (λ c κs. search needs) (λ c. search needs)
+    returns-2 (λ c. search needs) (λ c κs. search needs) (λ c. search needs) returns-3 (λ c. search needs) (λ c κs. search needs)
     returns-4)

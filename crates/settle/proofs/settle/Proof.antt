@@ -1,10 +1,14 @@
--- `settle::settle` meets its contract. Each turn plays one exchange; the measure of the crate `fairness` falls.
+-- `settle::settle` meets its contract. Each turn plays one exchange path; the measure of the crate `fairness` falls.
+use borrow.Author.Needs.{needs}
+use mathlib.Core.Logic.{_≢_, ⊎-elim}
+use native.Mathlib.Omega.{arith}
 use Rattle.sheet.specs.Sheets.{credit}
 use Rattle.fairness.proofs.Theorems.{measure}
-use Rattle.terms.specs.Terms.{instanceIn}
-use Rattle.terms.proofs.Told.{told-in, feasible-counted}
+use Rattle.instance.specs.Terms.{instanceIn}
+use Rattle.instance.proofs.Told.{told-in, shows-itself}
 use Rattle.fill.specs.Fills.{Full}
-use Rattle.settle.specs.Offers.{Offers}
+use Rattle.exchange.specs.declared.Kind.the-variants.{None}
+use Rattle.exchange.specs.Paths.{movesOf, Answers}
 use Rattle.settle.proofs.Turns.{turn-playable, turn-full, turn-less, turn-last}
 use Rattle.settle.proofs.settle.Statement.{statement}
 use Rattle.settle.proofs.settle.Tie as tie
@@ -15,62 +19,54 @@ Inv-loop caps t settled₀ settled = Full (instanceIn t caps) (credit settled)
 abbrev μ-loop : tie.MeasureT-loop
 μ-loop caps t settled₀ settled = measure (instanceIn t caps) (credit settled)
 
-fill-free-requires : tie.Need-fill-free-requires Inv-loop μ-loop
-fill-free-requires c κs = c .pre
-
 loop-holds : tie.Need-loop-holds Inv-loop μ-loop
-loop-holds c = c .fill-free .ensures _ (told-in (c .before .args .t) (c .before .args .caps))
+loop-holds c = c .pre .1
 
-next-requires : tie.Need-next-requires Inv-loop μ-loop
-next-requires c κs =
-    let b = c .before .before in (
-      b .pre .0 .ranged,
-      feasible-counted (b .args .t) (b .args .caps) (b .pre .0) (c .loop .settled) (c .loop .inv .feasible),
-    )
+find-path-requires : tie.Need-find-path-requires Inv-loop μ-loop
+find-path-requires c κs = (c .before .pre .0, c .loop .inv .feasible)
 
--- what the exchange of a turn is
-offers : (c : tie.After-next Inv-loop μ-loop) →
-    let b = c .before .before .before in
-    Offers (instanceIn (b .args .t) (b .args .caps)) (credit (c .before .loop .settled)) (c .next .result)
-offers c = let b = c .before .before .before in c .next .ensures _ (told-in (b .args .t) (b .args .caps))
+-- what the path of a turn is
+answers : (c : tie.After-find-path Inv-loop μ-loop) →
+    let b = c .before .before in
+    let x = c .find-path .result in
+    Answers (instanceIn (b .args .t) (b .args .caps)) (credit (c .before .loop .settled)) (x .kind) (x .receiver) (x .donor) (movesOf x)
+answers c =
+    let b = c .before .before in
+    c .find-path .ensures .1 _ _ (told-in (b .args .t) (b .args .caps)) (shows-itself (b .args .t) (c .before .loop .settled))
 
-play-route-requires : tie.Need-play-route-requires Inv-loop μ-loop
-play-route-requires c κs =
-    let n = c .before .before in
-    let b = n .before .before .before in
-    let found = c .before .if1 .taken in
-    (offers n .counted, turn-playable (b .args .t) (b .args .caps) (b .pre .0) _ (n .before .loop .inv) _ (offers n) found)
-
-loop-less : tie.Need-loop-less Inv-loop μ-loop
-loop-less c =
-    let n = c .before .before .before in
-    let b = n .before .before .before in
-    let found = c .before .before .if1 .taken in
-    turn-less (b .args .t) (b .args .caps) (b .pre .0) _ (n .before .loop .inv) _ (offers n) found _ (c .play-route .ensures)
-
-loop-again : tie.Need-loop-again Inv-loop μ-loop
-loop-again c =
-    let n = c .before .before .before in
-    let b = n .before .before .before in
-    let found = c .before .before .if1 .taken in
-    turn-full (b .args .t) (b .args .caps) (b .pre .0) _ (n .before .loop .inv) _ (offers n) found _ (c .play-route .ensures)
+-- where a turn plays a path there is one
+there : (c : tie.At-match-keys2 Inv-loop μ-loop) → c .before .find-path .result .kind ≢ None
+there c e = ⊎-elim (λ q. omega (arith, q)) (λ q. omega (arith, q)) (rw e at (c .match .keys2))
 
 returns : tie.Need-returns Inv-loop μ-loop
 returns c =
+    let n = c .before .before in
+    let b = n .before .before in
+    let last = turn-last (b .args .t) (b .args .caps) (b .pre .0) (n .before .loop .settled) (n .before .loop .inv) in
+    last (n .find-path .result) (answers n) (c .enum-told .given .1)
+
+play-path-requires : tie.Need-play-path-requires Inv-loop μ-loop
+play-path-requires c κs =
     let n = c .before in
-    let b = n .before .before .before in
-    turn-last (b .args .t) (b .args .caps) (b .pre .0) _ (n .before .loop .inv) _ (offers n) (c .if1 .left)
+    let b = n .before .before in
+    let playable = turn-playable (b .args .t) (b .args .caps) (b .pre .0) (n .before .loop .settled) (n .before .loop .inv) in
+    (n .find-path .ensures .0, playable (n .find-path .result) (answers n) (there c))
+
+loop-less : tie.Need-loop-less Inv-loop μ-loop
+loop-less c =
+    let n = c .before .before in
+    let b = n .before .before in
+    let less = turn-less (b .args .t) (b .args .caps) (b .pre .0) (n .before .loop .settled) (n .before .loop .inv) in
+    less (n .find-path .result) (answers n) (there (c .before)) _ (c .play-path .ensures)
+
+loop-again : tie.Need-loop-again Inv-loop μ-loop
+loop-again c =
+    let n = c .before .before in
+    let b = n .before .before in
+    let full = turn-full (b .args .t) (b .args .caps) (b .pre .0) (n .before .loop .settled) (n .before .loop .inv) in
+    full (n .find-path .result) (answers n) (there (c .before)) _ (c .play-path .ensures)
 
 pub settle-spec : {M : Type 1} → statement M
 settle-spec =
-    tie.close
-    (tie.spec
-    Inv-loop
-    μ-loop
-    fill-free-requires
-    loop-holds
-    next-requires
-    play-route-requires
-    loop-less
-    loop-again
-    returns)
+    tie.close (tie.spec Inv-loop μ-loop loop-holds find-path-requires (λ c. search needs) returns play-path-requires
+    loop-less loop-again)

@@ -22,5 +22,4 @@ returns-2 c =
 
 pub check-contents-spec : {M : Type 1} → statement M
 check-contents-spec =
-    tie.close
-    (tie.spec (λ c κs. search needs) (λ c. search needs) returns (λ c. search needs) (λ c κs. search needs) returns-2)
+    tie.close (tie.spec (λ c κs. search needs) (λ c. search needs) returns (λ c. search needs) (λ c κs. search needs) returns-2)

@@ -4,14 +4,9 @@ use Rattle.dayfile.proofs.Lines.{three-as}
 use Rattle.reader.proofs.contents.check_entries.Statement.{statement}
 use Rattle.reader.proofs.contents.check_entries.Tie as tie
 
-returns : tie.Need-returns
-unfolding contentsLines line4 line5
-returns c =
-    let z = c .before in
-    let y = z .before in
-    three-as 4 (c .first-of .ensures) (y .before .wrong-entry .ensures) (y .wrong-entry2 .ensures) (z .wrong-end .ensures)
-
 pub check-entries-spec : {M : Type 1} → statement M
+unfolding contentsLines line4 line5
 check-entries-spec =
-    tie.close
-    (tie.spec (λ c κs. search needs) (λ c κs. search needs) (λ c κs. search needs) (λ c κs. search needs) returns)
+    tie.close (tie.spec (λ c κs. search needs) (λ c κs. search needs) (λ c κs. search needs) (λ c κs. search needs) (λ c.
+    let b = c .before .before in
+    three-as 4 (c .first-of .ensures) (b .before .wrong-entry .ensures) (b .wrong-entry2 .ensures) (c .before .wrong-end .ensures)))

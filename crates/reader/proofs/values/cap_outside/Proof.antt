@@ -26,5 +26,4 @@ returns c =
 
 pub cap-outside-spec : {M : Type 1} → statement M
 cap-outside-spec =
-    tie.close
-    (tie.spec (λ c κs. search needs) (λ c κs. search needs) (λ c κs. search needs) mul-outside outside-requires returns)
+    tie.close (tie.spec (λ c κs. search needs) (λ c κs. search needs) (λ c κs. search needs) mul-outside outside-requires returns)

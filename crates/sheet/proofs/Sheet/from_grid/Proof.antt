@@ -31,17 +31,6 @@ returns c =
 
 pub from-grid-spec : {M : Type 1} → statement M
 from-grid-spec =
-    tie.close
-    (tie.spec
-    Inv-loop
-    μ-loop
-    (λ c κs. search needs)
-    (λ c. filled-first (shaped _ _ (c .zero .ok) .shape .rows) (search needs))
-    (λ c. search needs)
-    (λ c. search needs)
-    (λ c. search needs)
-    (λ c. search needs)
-    (λ c. search needs)
-    (λ c. search needs)
-    loop-again
+    tie.close (tie.spec Inv-loop μ-loop (λ c κs. search needs) (λ c. filled-first (shaped _ _ (c .zero .ok) .shape .rows) (search needs))
+    (λ c. search needs) (λ c. search needs) (λ c. search needs) (λ c. search needs) (λ c. search needs) (λ c. search needs) loop-again
     returns)

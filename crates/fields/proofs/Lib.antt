@@ -1,0 +1,2 @@
+-- Laws of arrays that are filled from a file.
+pub mod Filling

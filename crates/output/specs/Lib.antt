@@ -1,0 +1,2 @@
+-- What the program `plan` prints.
+pub mod Output

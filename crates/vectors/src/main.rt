@@ -1,0 +1,67 @@
+// Runs the vectors that stand on standard input, a line each, and prints each line with what the library makes of it. Lines that start
+// with # say what the vectors below them show; the other forms are explained at the top of that file.
+use libc::STDIN_FILENO;
+ghost use Prim.Native.Nat.{_<_, _≤_};
+ghost use lib.ListN.{length};
+use say::front;
+use say::say_text;
+
+pub mod calls;
+pub mod numbers;
+
+// A call's answer, by the word's first letter.
+fn answer(word: u8, numbers: &[u8], out: &mut [u8]) {
+    match word {
+        b'r' => calls::read(numbers, out),
+        b'w' => calls::write(numbers, out),
+        b'm' => calls::mark(numbers, out),
+        b'p' => calls::plan(numbers, out),
+        b'l' => calls::list(numbers, out),
+        _ => {}
+    }
+}
+
+// A line and the answer to it. Its first number is the length of the output buffer, whose bytes are all 255 before the call.
+fn run(line: &[u8]) {
+    say_text(line);
+    if line.len() == 0 {
+        return;
+    }
+    let mut numbers = [0u8; 4096];
+    numbers::read(line, &mut numbers);
+    let room = numbers::at(&numbers, 0) as usize;
+    let mut out = [255u8; 4096];
+    if room <= 4096 {
+        answer(line[0], &numbers, &mut out[..room]);
+    }
+}
+
+// Where the line that starts at a place ends, its end included.
+fn line_end(text: &[u8], start: usize) -> usize
+    requires { ⌜ start < length (now text) ⌝ }
+    ensures { λ r. ⌜ (start < r) × (r ≤ length (now (text .entry))) ⌝ }
+{
+    let mut i = start;
+    while i < text.len() {
+        if text[i] == b'\n' {
+            return i + 1;
+        }
+        i += 1;
+    }
+    i
+}
+
+fn run_all(text: &[u8]) {
+    let mut start = 0;
+    while start < text.len() {
+        let end = line_end(text, start);
+        run(&text[start..end]);
+        start = end;
+    }
+}
+
+fn main() {
+    let mut text = io::large_buffer();
+    let n = io::read_full(STDIN_FILENO, &mut text);
+    run_all(&text[..n]);
+}

@@ -1,0 +1,12 @@
+use mathlib.Core.Path.{refl}
+use Rattle.dayfile.specs.Table.{optionLines}
+use borrow.Author.Needs.{needs}
+use Rattle.writer.proofs.lines.check_options.Statement.{statement}
+use Rattle.writer.proofs.lines.check_options.Tie as tie
+
+returns : tie.Need-returns
+unfolding optionLines
+returns c = λ d h. refl
+
+pub check-options-spec : {M : Type 1} → statement M
+check-options-spec = tie.close (tie.spec returns)
