@@ -3,6 +3,7 @@ use dayfile::Book;
 use dayfile::Check;
 use dayfile::Day;
 use dayfile::Written;
+use listing::LISTING_MAX;
 use marker::Marking;
 use marker::lines::MOVES_ROOM;
 use say::all_from;
@@ -91,9 +92,14 @@ fn begins(text: &[u8], letter: u8) -> bool {
     0 < text.len() && text[0] == letter
 }
 
+// More bytes than any listing has, and a byte less than the listing asks for.
+const LISTING_ROOM: usize = LISTING_MAX + 7;
+
+const LISTING_SHORT: usize = LISTING_MAX - 1;
+
 // Whether the listing begins as it must, with `refused` or `seats`.
 pub fn lists(file: &[u8], refused: bool) -> bool {
-    let mut out = [255u8; 3460];
+    let mut out = [255u8; LISTING_ROOM];
     let Written::Whole { length } = listing::listing(file, &mut out) else {
         return false;
     };
@@ -103,11 +109,11 @@ pub fn lists(file: &[u8], refused: bool) -> bool {
 
 // Whether the listing refuses a buffer that is a byte short.
 pub fn lists_short(file: &[u8]) -> bool {
-    let mut out = [255u8; 3452];
+    let mut out = [255u8; LISTING_SHORT];
     let Written::Refused { number, at } = listing::listing(file, &mut out) else {
         return false;
     };
-    number == 16 && at == 3453 && all_from(&out, 0, 255)
+    number == 16 && at == LISTING_MAX && all_from(&out, 0, 255)
 }
 
 // Whether what was read of a file is written as the same bytes; true where nothing can be read.

@@ -14,6 +14,9 @@ use say::all_from;
 use say::front;
 use sheet::Caps;
 
+// More bytes than any file has.
+const PLAN_ROOM: usize = LONGEST_FILE + 10;
+
 pub struct Planned {
     pub books: u32,
     pub wrong: u32,
@@ -51,7 +54,7 @@ fn judge_book(book: Book, caps: Caps) -> bool {
     let Written::Whole { length } = writer::write(&mut file, day) else {
         return false;
     };
-    let mut out = [255u8; 3220];
+    let mut out = [255u8; PLAN_ROOM];
     let Written::Whole { length: end } = planner::plan(front(&file, length), &mut out) else {
         return false;
     };

@@ -105,10 +105,13 @@ fn say_row(number: usize, a: u32, b: u32, c: u32) {
     say_text(b"\n");
 }
 
-// The marker's answer with a buffer of 92 or 93 bytes.
+// A byte less than the marker asks for.
+const MOVES_SHORT: usize = MOVES_ROOM - 1;
+
+// The marker's answer with a buffer that is a byte short, or long enough.
 fn mark_with(file: &[u8], first: Check, short: bool) -> Seen {
     if short {
-        let mut few = [255u8; 92];
+        let mut few = [255u8; MOVES_SHORT];
         return see_mark(file, first, &mut few);
     }
     let mut moves = [255u8; MOVES_ROOM];

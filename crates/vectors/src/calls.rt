@@ -52,7 +52,10 @@ fn write_book(numbers: &[u8], out: &mut [u8]) -> Written {
         classes,
         supplies,
     };
-    writer::write(out, Day::new(book, caps, numbers::at(numbers, 1) == 1, sheet))
+    writer::write(
+        out,
+        Day::new(book, caps, numbers::at(numbers, 1) == 1, sheet),
+    )
 }
 
 pub fn write(numbers: &[u8], out: &mut [u8]) {
