@@ -24,7 +24,7 @@ use Rattle.marker.specs.declared.Marking.{Marking}
 use Rattle.marker.specs.declared.Marking.the-variants.{Refused, Improvable, Tied, Settled}
 use Rattle.marker.specs.declared.Marking.the-variants as variants
 use Rattle.marker.specs.Marking.{sheetIn, told, Passing, Marks}
-use Rattle.marker.proofs.Taken.{book-is, sheet-in, none-hold}
+use Rattle.lawful.proofs.Taken.{book-is, sheet-in, none-hold}
 use Rattle.marker.proofs.Theorems as marker
 use Rattle.planner.specs.Planning.{Plans}
 use Rattle.planner.proofs.Theorems as planner

@@ -14,8 +14,8 @@ use Rattle.dayfile.specs.declared.Book as Memory
 use Rattle.dayfile.proofs.Held.{seats-in, windows-in}
 use Rattle.sheet.specs.declared.Sheet.{Sheet}
 use Rattle.sheet.specs.Sheets.{credit}
-use Rattle.marker.specs.Wastes.{cellsIn}
-use Rattle.marker.proofs.Used.{cell-in, class-in, supply-in}
+use Rattle.dayfile.specs.Memory.{cellsIn}
+use Rattle.dayfile.proofs.Used.{cell-in, class-in, supply-in}
 use Rattle.listing.specs.Listing.{listingText, listingOf}
 use Rattle.listing.proofs.Instance.{listing-is}
 

@@ -14,7 +14,7 @@ use Rattle.model.specs.Marks.{markOf, resultOf}
 use Rattle.dayfile.specs.Bounds.{Fit}
 use Rattle.dayfile.specs.Layout.{bookOf}
 use Rattle.dayfile.specs.Table.{refuse, firstOf, readLines, markerLines, sheetLines, bufferLines, markLines, movesRoom, line16}
-use Rattle.dayfile.specs.Memory.{bookIn, sheetIn, dayBook, Reads}
+use Rattle.dayfile.specs.Memory.{bookIn, cellsIn, sheetIn, dayBook, Reads}
 use Rattle.dayfile.specs.declared.Book as Memory
 use Rattle.dayfile.specs.declared.Reading.{Reading}
 use Rattle.dayfile.proofs.Answers.{defined-refusal, defined-answer}
@@ -28,9 +28,8 @@ use Rattle.marker.specs.declared.Marking.{Marking}
 use Rattle.marker.specs.declared.Marking.the-variants.{Refused}
 use Rattle.marker.specs.Marking as marking
 use Rattle.marker.specs.Marking.{Marks}
-use Rattle.marker.specs.Wastes.{cellsIn}
 use Rattle.marker.specs.Steps.{MarkedAs, Markable}
-use Rattle.marker.proofs.Accepted.{accepted-lawful, has-sheet-of}
+use Rattle.lawful.proofs.Accepted.{accepted-lawful, has-sheet-of}
 use Rattle.dayfile.proofs.Readings.{read-day}
 
 -- the sheet that is in memory, where there is one

@@ -7,27 +7,23 @@ ghost use Rattle.model.specs.Book as model;
 ghost use Rattle.model.specs.Marks.{markOf};
 ghost use Rattle.sheet.specs.Sheets.{credit};
 ghost use Rattle.dayfile.specs.Table.{movesRoom};
-ghost use Rattle.dayfile.specs.Memory.{bookIn, Reads};
+ghost use Rattle.dayfile.specs.Memory.{bookIn, cellsIn, Reads};
 ghost use Rattle.instance.specs.Terms.{instanceIn, Told, Shows, Small};
 ghost use Rattle.dayfile.specs.Outcome.{answer};
 ghost use Rattle.marker.specs.Marking.{told, numbersOf, Marks};
-ghost use Rattle.marker.specs.Wastes.{cellsIn};
 ghost use Rattle.marker.specs.Steps.{fairMark, MarkedAs, Markable};
 use dayfile::Book;
 use dayfile::Check;
 use dayfile::Reading;
 use exchange::Kind;
 use instance::Terms;
-use lines::check_file;
+use lawful::check_file;
 use moves::write_moves;
 use sheet::Sheet;
 use waste::Waste;
 use waste::wasted;
 
-mod lawful;
-pub mod lines;
 pub mod moves;
-pub mod waste;
 
 // What the marker says: a refusal, or one of the four marks, with numbers counted from 1.
 pub enum Marking {

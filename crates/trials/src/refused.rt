@@ -17,7 +17,7 @@ use draws::damage::damage_book;
 use draws::damage::damage_caps;
 use draws::damage::draw_file;
 use draws::small::draw_small;
-use marker::lines::MOVES_ROOM;
+use lawful::MOVES_ROOM;
 use say::front;
 use say::say_number;
 use say::say_text;

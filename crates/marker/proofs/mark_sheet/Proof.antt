@@ -2,7 +2,7 @@
 use borrow.Author.Needs.{needs}
 use Prim.Native.Nat.{_<_}
 use native.Mathlib.Omega.{arith}
-use Rattle.marker.proofs.Used.{range-in}
+use Rattle.dayfile.proofs.Used.{range-in}
 use Rattle.marker.proofs.Memory.{shows, searchable, wasted-small, tells, waste-marked, full-marked}
 use Rattle.marker.proofs.mark_sheet.Statement.{statement}
 use Rattle.marker.proofs.mark_sheet.Tie as tie
