@@ -27,24 +27,19 @@ fn turn(grid: &mut Caps, residual: &mut Residual, caps: &Caps, phase: Phase, act
     minus(active, a.done)
 }
 
-// Augmentations of at least `unit` credits. Where the donor has too little to give, none that is reached takes part any more. With 1 for
-// `unit` the end is settled if the turns suffice.
-fn scale(grid: &mut Caps, caps: &Caps, t: Terms, unit: u16)
-    requires { ⌜ (t .seats ≤ 32) × (t .windows ≤ 24) ⌝ }
-    ensures { λ _. ⌜ Keeps (t .seats) (t .windows) (now (caps .entry)) (now (grid .entry)) (now (grid .exit)) ⌝ }
+// Augmentations of at least the phase's unit. Where the donor has too little to give, none that is reached takes part any more. With 1 for
+// the unit the end is settled if the turns suffice.
+fn scale(grid: &mut Caps, residual: &mut Residual, caps: &Caps, phase: Phase)
+    requires { ⌜ (phase .seats ≤ 32) × (phase .windows ≤ 24) ⌝ }
+    ensures { λ _. ⌜ Keeps (phase .seats) (phase .windows) (now (caps .entry)) (now (grid .entry)) (now (grid .exit)) ⌝ }
 {
-    let phase = Phase {
-        seats: t.seats,
-        windows: t.windows,
-        unit,
-    };
-    let mut residual = residual::residual_of(grid, caps, t, unit);
+    residual::note_all(residual, grid, caps, phase);
     let mut active = full(phase.seats);
     for _ in 0..4096u32 {
         if active == 0 {
             return;
         }
-        active = turn(grid, &mut residual, caps, phase, active);
+        active = turn(grid, residual, caps, phase, active);
     }
 }
 
@@ -53,6 +48,13 @@ pub fn even_out(grid: &mut Caps, caps: &Caps, t: Terms)
     requires { ⌜ (t .seats ≤ 32) × (t .windows ≤ 24) ⌝ }
     ensures { λ _. ⌜ Keeps (t .seats) (t .windows) (now (caps .entry)) (now (grid .entry)) (now (grid .exit)) ⌝ }
 {
-    scale(grid, caps, t, 64);
-    scale(grid, caps, t, 1);
+    let mut phase = Phase {
+        seats: t.seats,
+        windows: t.windows,
+        unit: 64,
+    };
+    let mut residual = residual::ranks_of(grid, t);
+    scale(grid, &mut residual, caps, phase);
+    phase.unit = 1;
+    scale(grid, &mut residual, caps, phase);
 }

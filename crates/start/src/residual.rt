@@ -59,7 +59,7 @@ fn note_window(residual: &mut Residual, grid: &Caps, caps: &Caps, phase: Phase, 
 }
 
 // The same for all windows.
-fn note_all(residual: &mut Residual, grid: &Caps, caps: &Caps, phase: Phase)
+pub(crate) fn note_all(residual: &mut Residual, grid: &Caps, caps: &Caps, phase: Phase)
     requires { ⌜ (phase .seats ≤ 32) × (phase .windows ≤ 24) ⌝ }
 {
     for w in 0..phase.windows {
@@ -81,22 +81,15 @@ fn heights_of(grid: &Caps, t: Terms) -> [u32; 32]
     heights
 }
 
-// The residual graph of a grid.
-pub(crate) fn residual_of(grid: &Caps, caps: &Caps, t: Terms, unit: u16) -> Residual
+// What seats are ranked by. Who can take and who can give is not noted yet.
+pub(crate) fn ranks_of(grid: &Caps, t: Terms) -> Residual
     requires { ⌜ (t .seats ≤ 32) × (t .windows ≤ 24) ⌝ }
 {
     let none = [0u32; 32];
     let heights = heights_of(grid, t);
     let weights = t.weights;
     let positions = t.positions;
-    let mut residual = [none, none, heights, weights, positions];
-    let phase = Phase {
-        seats: t.seats,
-        windows: t.windows,
-        unit,
-    };
-    note_all(&mut residual, grid, caps, phase);
-    residual
+    [none, none, heights, weights, positions]
 }
 
 // Notes anew whether the two seats of a step can take and give in its window.

@@ -6,11 +6,11 @@ use Rattle.start.proofs.scale.Statement.{statement}
 use Rattle.start.proofs.scale.Tie as tie
 
 abbrev Inv-loop : tie.InvT-loop
-Inv-loop grid₀ caps unit phase residual₀ active₀ counter₀ grid residual active counter =
+Inv-loop grid₀ residual₀ caps phase active₀ counter₀ grid residual active counter =
     (counter ≤ 4096) × Keeps (phase .seats) (phase .windows) caps grid₀ grid
 
 abbrev μ-loop : tie.MeasureT-loop
-μ-loop grid₀ caps unit phase residual₀ active₀ counter₀ grid residual active counter = 4096 - counter
+μ-loop grid₀ residual₀ caps phase active₀ counter₀ grid residual active counter = 4096 - counter
 
 loop-again : tie.Need-loop-again Inv-loop μ-loop
 loop-again c =
