@@ -96,5 +96,6 @@ module _ (f before : List ℕ) (passed : firstOf (markLines f (length before)) �
         (markOf (bookIn (r .day .book) caps) (cellsIn (r .day .book) (r .day .sheet))) before after x →
         Marks f before after x
     marked-marks after x h =
-        let m : MarkedAs (bookOf f) (marking.sheetIn f) (markOf (bookOf f) (marking.sheetIn f)) before after x = rw (book-is, sheet-is) at h in
+        let m : MarkedAs (bookOf f) (marking.sheetIn f) (markOf (bookOf f) (marking.sheetIn f)) before after x =
+        rw (book-is, sheet-is) at h in
         defined-answer (resultOf (markOf (bookOf f) (marking.sheetIn f))) passed (m .says) (refl, m .buffer)

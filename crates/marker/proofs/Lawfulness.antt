@@ -45,7 +45,8 @@ lawful-in m caps sheet given within sums fits =
           omega (arith, within i j i-in j-in, cell-in m sheet i j i-in j-in, cap-in m (gridOf caps) i j i-in j-in, credit-cell caps i j);
       fits = λ j lj.
           let j-in : j < m .windows = omega arith in
-          let all = ap (λ (x : ℕ). sum x (λ i. cell (cellsIn m sheet) i j)) n ∙ sum-eq (m .seats) _ _ (λ i li. cell-in m sheet i j li j-in) in
+          let all = ap (λ (x : ℕ). sum x (λ i. cell (cellsIn m sheet) i j)) n
+          ∙ sum-eq (m .seats) _ _ (λ i li. cell-in m sheet i j li j-in) in
           omega (arith, fits j j-in, sums j j-in, all, supply-in m (gridOf caps) j j-in);
     }
 

@@ -1,5 +1,5 @@
-// A quick look at a sheet in memory: nearly every sheet is lawful, and then none of the lines 13 to 15 holds. A sheet that is not is left to
-// the lines, which say where.
+// A quick look at a sheet in memory: nearly every sheet is lawful, and then none of the lines 13 to 15 holds. A sheet that is not is left
+// to the lines, which say where.
 ghost use mathlib.Core.Path.{_≡_};
 ghost use mathlib.Core.Bool.{true};
 ghost use Prim.Native.Nat.{ℕ, _≤_, _<_};
@@ -55,15 +55,18 @@ fn within_supplies(placed: [u32; 24], supplies: [u16; 24], windows: usize) -> bo
     true
 }
 
-// Whether a day has a sheet that is lawful.
+// Of fewer seats the lines themselves are as quick.
+const FEW_SEATS: usize = 8;
+
+// Whether a day has a sheet that is seen to be lawful.
 pub fn is_lawful(day: Day) -> bool
     requires { ⌜ (day .book .seats ≤ 32) × (day .book .windows ≤ 24) ⌝ }
     ensures { λ r. ⌜ (r ≡ true → (day .«has_sheet» ≡ true) × Lawful (dayBook day) (cellsIn (day .book) (day .sheet))) ⌝ }
 {
-    if !day.has_sheet {
+    let book = day.book;
+    if !day.has_sheet || book.seats < FEW_SEATS {
         return false;
     }
-    let book = day.book;
     let sheet = day.sheet;
     let caps = day.caps;
     let supplies = book.supplies;

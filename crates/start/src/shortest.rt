@@ -21,8 +21,23 @@ pub(crate) struct Tree {
     pub takers: [u8; 32],
 }
 
-// A turn notes one seat that was found, or tries one window, or goes on to the next layer; each layer but the last opens a window, so the
-// turns suffice.
+// The windows of a set, from the first one on where a seat of the front can take.
+fn skip_shut(residual: &Residual, windows: u32, front: u32) -> u32 {
+    let mut rest = windows;
+    for _ in 0..32u32 {
+        if rest == 0 {
+            return 0;
+        }
+        if intersect(residual[TAKERS][lowest(rest)], front) != 0 {
+            return rest;
+        }
+        rest = remove_lowest(rest);
+    }
+    0
+}
+
+// Layer by layer: each window that a seat of the last layers can take in adds all who give there. A turn notes one seat that was found, or
+// opens one window, or goes on to the next layer; each layer but the last opens a window, so the turns suffice.
 pub(crate) fn grow(residual: &Residual, windows: usize, receiver: usize) -> Tree
     requires { ⌜ (windows ≤ 24) × (receiver < 32) ⌝ }
 {
@@ -31,13 +46,13 @@ pub(crate) fn grow(residual: &Residual, windows: usize, receiver: usize) -> Tree
         windows: [0u8; 32],
         takers: [0u8; 32],
     };
-    let mut front = tree.set;
+    let mut front = 0;
     let mut shut = full(windows);
-    let mut rest = shut;
+    let mut rest = 0;
     let mut found = 0;
     let mut window = 0;
     let mut taker = 0;
-    for _ in 0..700u32 {
+    for _ in 0..128u32 {
         if found != 0 {
             let i = lowest(found);
             found = remove_lowest(found);
@@ -52,6 +67,8 @@ pub(crate) fn grow(residual: &Residual, windows: usize, receiver: usize) -> Tree
                 found = minus(residual[GIVERS][window], tree.set);
                 tree.set = union(tree.set, found);
                 shut = remove(shut, window);
+            } else {
+                rest = skip_shut(residual, rest, front);
             }
         } else if tree.set != front {
             front = tree.set;

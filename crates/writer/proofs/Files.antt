@@ -13,7 +13,7 @@ use Rattle.sheet.specs.Sheets.{gridOf}
 use Rattle.sheet.specs.declared.Sheet.{Sheet}
 use Rattle.dayfile.specs.Layout.{contentsEnd}
 use Rattle.dayfile.specs.File.{Part, bytesOf, contents, bodies, fieldsOf, assemble, flat, flatIf, optPart, optParts, partsOf, fileOf}
-use Rattle.dayfile.specs.Table.{plannedLength}
+use Rattle.dayfile.specs.Table.{known, plannedLength}
 use Rattle.dayfile.specs.Memory.{sized, sizedGrid, bookIn, sheetIn, dayBook, daySheet, fileIn, front}
 use Rattle.dayfile.specs.declared.Book as Memory
 use Rattle.dayfile.specs.declared.Day.{Day}
@@ -21,7 +21,7 @@ use Rattle.dayfile.proofs.Tables.{sized-length}
 use Rattle.dayfile.proofs.Fields.{length-bytes}
 use Rattle.dayfile.proofs.Grids.{sized-flat-length}
 use Rattle.writer.specs.Stores.{Room, Put, sizeIf, fieldsIf, total, count, size, entry, entries, sizes, entriesAt}
-use Rattle.writer.specs.Stores.{head, slot, slotCount, slotsOf, slotsIn, bookFields, optionFields, Of}
+use Rattle.writer.specs.Stores.{head, slot, slotsOf, slotsIn, bookFields, optionFields, Of}
 use Rattle.writer.specs.declared.contents.Slot.{Slot}
 use Rattle.writer.proofs.Storing.{put-none, put-then, put-as, put-end, put-front, room-first, room-next, room-as, grid-if}
 
@@ -123,7 +123,7 @@ size-most true n = omega arith
 size-most false n = omega arith
 
 pub slots-fit : (b : Memory.Book) (t : Bool) {ss : List Slot} → ss ≡ slotsOf b t → (b .seats ≤ 32) × (b .windows ≤ 24)
-    → (length ss ≡ slotCount) × (sizes ss < 30000)
+    → (length ss ≡ known) × (sizes ss < 30000)
 unfolding slotsOf total
 slots-fit b t e h =
     let q = mul-le-mul (h .0) (h .1) in

@@ -102,12 +102,7 @@ grid-room {n = n} m g i xs r h k =
 pub row-long : (s : Sheet) → Shaped 32 24 (gridOf s) → (i : ℕ) → i < 32 → length (getD (s .rows) i noRow .cells) ≡ 24
 row-long s h i l = ap length (sym (row-is s i)) ∙ h .row i l
 
--- ---- what may be missing: no fields, no rows
-
-pub list-if : (t : Bool) (n : ℕ) (xs : List ℕ) → sized (sizeIf t n) xs ≡ fieldsIf t (sized n xs)
-unfolding sized table
-list-if true n xs = refl
-list-if false n xs = refl
+-- ---- what may be missing: no rows
 
 pub grid-if : (t : Bool) (n m : ℕ) (g : Grid) → flat (sizedGrid (sizeIf t n) m g) ≡ fieldsIf t (flat (sizedGrid n m g))
 grid-if true n m g = refl

@@ -70,10 +70,7 @@ head ss = entries ss ∷ entriesAt (contentsEnd (entries ss)) ss
 abbrev pub slot : ℕ → Bool → ℕ → Slot
 slot kind there fields = record { kind = kind; there = there; fields = fields }
 
--- its slots: a further kind is one more
-abbrev pub slotCount : ℕ
-slotCount = 4
-
+-- its slots, as many as kinds are known: a further kind is one more
 unfoldable pub slotsOf : Memory.Book → Bool → List Slot
 slotsOf b hasSheet =
     slot 1 true (b .seats)

@@ -28,12 +28,5 @@ returns c = λ d h. length-told d (c .before .before .slots-of .ensures) (c .bef
 pub file-length-spec : {M : Type 1} → statement M
 file-length-spec =
     tie.close
-    (tie.spec
-    (λ c κs. search needs)
-    (λ c κs. search needs)
-    (λ c. search needs)
-    (λ c. search needs)
-    count-fields-requires
-    mul-result-2
-    add-result-2
-    returns)
+    (tie.spec (λ c κs. search needs) (λ c κs. search needs) (λ c. search needs) (λ c. search needs) count-fields-requires mul-result-2
+    add-result-2 returns)

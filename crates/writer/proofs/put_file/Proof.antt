@@ -37,10 +37,4 @@ returns c =
 pub put-file-spec : {M : Type 1} → statement M
 put-file-spec =
     tie.close
-    (tie.spec
-    (λ c κs. search needs)
-    put-contents-requires
-    put-book-requires
-    put-options-requires
-    (λ c. search needs)
-    returns)
+    (tie.spec (λ c κs. search needs) put-contents-requires put-book-requires put-options-requires (λ c. search needs) returns)

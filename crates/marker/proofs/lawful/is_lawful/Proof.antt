@@ -11,10 +11,10 @@ returns-3 : tie.Need-returns-3
 returns-3 c e =
     let sums = c .before in
     let caps = sums .before .before in
-    let there = caps .before .before .before .before .before in
-    let start = there .before .before in (
+    let there = caps .before .before .before .before .before .before in
+    let start = there .before .before .before in (
       not-false _ (there .if1 .left),
-      lawful-in (start .args .day .book) _ _ (sums .placed .result) (caps .within-caps .ensures (not-false _ (sums .before .if2 .left)))
+      lawful-in (start .args .day .book) _ _ (sums .placed .result) (caps .within-caps .ensures (not-false _ (sums .before .if3 .left)))
           (sums .placed .ensures) (c .within-supplies .ensures e),
     )
 

@@ -27,7 +27,8 @@ returns c =
     let grid = l .before .before in
     let found = at-line (k .seat-below .ensures) (c .before .seat .given .1) in
     let here = search-hit (l .before .loop .inv) (l .loop-test .taken) (ap₂ _&&_ (lt-ltb _ _ (test .if1 .taken)) (ap isSome found)) in
-    wasted-at _ _ _ (grid .before .placed .result) (grid .before .placed .ensures) _ (grid .to-grid .ensures) _ _ here (l .loop-test .taken) found
+    wasted-at _ _ _ (grid .before .placed .result) (grid .before .placed .ensures) _ (grid .to-grid .ensures)
+    _ _ here (l .loop-test .taken) found
 
 loop-again : tie.Need-loop-again Inv-loop μ-loop
 loop-again c =

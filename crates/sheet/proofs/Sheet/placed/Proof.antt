@@ -39,7 +39,12 @@ add-row-requires c κs =
 loop-again : tie.Need-loop-again Inv-loop μ-loop
 loop-again c =
     let l = c .before .before .before .before .loop in
-    (search needs, λ j h. rw (add-one (l .i)) (omega (arith, c .add-row .ensures j h, l .inv .1 j h, sum-suc (l .i) (λ k. credit (c .before .before .before .before .before .args .t1) k j))))
+    let self = c .before .before .before .before .before .args .t1 in (
+      search needs,
+      λ j h.
+          let more = sum-suc (l .i) (λ k. credit self k j) in
+          rw (add-one (l .i)) (omega (arith, c .add-row .ensures j h, l .inv .1 j h, more)),
+    )
 
 returns : tie.Need-returns Inv-loop μ-loop
 returns c j h =

@@ -8,11 +8,11 @@ use Rattle.start.proofs.shortest.grow.Tie as tie
 
 abbrev Inv-loop : tie.InvT-loop
 Inv-loop residual windows receiver tree₀ front₀ shut₀ rest₀ found₀ window₀ taker₀ counter₀ tree front shut rest found window taker counter =
-    (counter ≤ 700) × ((window < 32) × (taker < 32))
+    (counter ≤ 128) × ((window < 32) × (taker < 32))
 
 abbrev μ-loop : tie.MeasureT-loop
 μ-loop residual windows receiver tree₀ front₀ shut₀ rest₀ found₀ window₀ taker₀ counter₀ tree front shut rest found window taker counter =
-    700 - counter
+    128 - counter
 
 loop-again : tie.Need-loop-again Inv-loop μ-loop
 loop-again c = (
@@ -45,6 +45,7 @@ grow-spec =
     (λ c. search needs)
     (λ c. search needs)
     (λ c. search needs)
+    (λ c κs. search needs)
     (λ c κs. search needs)
     (λ c κs. search needs)
     (λ c κs. search needs)

@@ -12,7 +12,8 @@ put-rows-requires c κs =
 returns : tie.Need-returns
 returns c =
     let p = c .before .before in
-    let n = p .before .before .size-if .ensures in options-put (p .before .before .before .before .before .args .day) (n .0) (p .put-rows .ensures)
+    let n = p .before .before .size-if .ensures in
+    options-put (p .before .before .before .before .before .args .day) (n .0) (p .put-rows .ensures)
 
 pub put-options-spec : {M : Type 1} → statement M
 put-options-spec = tie.close (tie.spec (λ c κs. search needs) put-rows-requires (λ c. search needs) returns)

@@ -26,11 +26,5 @@ returns c =
 pub put-contents-spec : {M : Type 1} → statement M
 put-contents-spec =
     tie.close
-    (tie.spec
-    (λ c κs. search needs)
-    put-requires
-    (λ c. search needs)
-    (λ c. search needs)
-    put-entries-requires
-    (λ c. search needs)
+    (tie.spec (λ c κs. search needs) put-requires (λ c. search needs) (λ c. search needs) put-entries-requires (λ c. search needs)
     returns)

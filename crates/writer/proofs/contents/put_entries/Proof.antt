@@ -2,7 +2,7 @@ use mathlib.Core.Path.{refl}
 use Prim.Native.Nat.{_-_}
 use native.Mathlib.Omega.{arith}
 use borrow.Author.Needs.{needs}
-use Rattle.writer.specs.Stores.{slotCount}
+use Rattle.dayfile.specs.Table.{known}
 use Rattle.writer.proofs.Storing.{put-long}
 use Rattle.writer.proofs.Slots.{Entered, entered-first, entered-next, entered-room, entered-start, entered-end}
 use Rattle.writer.proofs.contents.put_entries.Statement.{statement}
@@ -12,7 +12,7 @@ abbrev Inv-loop : tie.InvT-loop
 Inv-loop buf₀ at start slots p₀ body₀ i₀ buf p body i = Entered buf₀ at start slots i p body buf
 
 abbrev μ-loop : tie.MeasureT-loop
-μ-loop buf₀ at start slots p₀ body₀ i₀ buf p body i = slotCount - i
+μ-loop buf₀ at start slots p₀ body₀ i₀ buf p body i = known - i
 
 loop-holds : tie.Need-loop-holds Inv-loop μ-loop
 loop-holds c = entered-first
@@ -52,18 +52,5 @@ returns c = let l = c .before in entered-end (l .loop .inv) (omega (arith, l .be
 pub put-entries-spec : {M : Type 1} → statement M
 put-entries-spec =
     tie.close
-    (tie.spec
-    Inv-loop
-    μ-loop
-    loop-holds
-    (λ c. search needs)
-    (λ c. search needs)
-    put-entry-requires
-    (λ c κs. search needs)
-    mul-body
-    add-body
-    (λ c. search needs)
-    (λ c. search needs)
-    loop-again
-    same-length
-    returns)
+    (tie.spec Inv-loop μ-loop loop-holds (λ c. search needs) (λ c. search needs) put-entry-requires (λ c κs. search needs) mul-body
+    add-body (λ c. search needs) (λ c. search needs) loop-again same-length returns)

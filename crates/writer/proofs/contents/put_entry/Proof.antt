@@ -58,12 +58,4 @@ returns-2 c = let a = c .before .before .args in missing-put _ _ (a .slot) (a .s
 pub put-entry-spec : {M : Type 1} → statement M
 put-entry-spec =
     tie.close
-    (tie.spec
-    (λ c. search needs)
-    put-requires
-    put-requires-2
-    mul-put
-    put-requires-3
-    (λ c. search needs)
-    returns
-    returns-2)
+    (tie.spec (λ c. search needs) put-requires put-requires-2 mul-put put-requires-3 (λ c. search needs) returns returns-2)

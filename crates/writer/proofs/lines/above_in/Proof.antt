@@ -33,15 +33,18 @@ few i m h k = mul-le-mul h k
 
 mul-outside-in : tie.Need-mul-outside-in Inv-loop μ-loop
 mul-outside-in c =
-    let l = c .before .before .before .before in let q = few (l .loop .i) (l .before .args .m) (omega arith) (omega arith) in record { fits = omega arith }
+    let l = c .before .before .before .before in
+    let q = few (l .loop .i) (l .before .args .m) (omega arith) (omega arith) in record { fits = omega arith }
 
 mul-outside-in-2 : tie.Need-mul-outside-in-2 Inv-loop μ-loop
 mul-outside-in-2 c =
-    let l = c .before .before .before .before in let q = few (l .loop .i) (l .before .args .m) (omega arith) (omega arith) in record { fits = omega arith }
+    let l = c .before .before .before .before in
+    let q = few (l .loop .i) (l .before .args .m) (omega arith) (omega arith) in record { fits = omega arith }
 
 add-outside-in : tie.Need-add-outside-in Inv-loop μ-loop
 add-outside-in c =
-    let l = c .before .before .before .before in let q = few (l .loop .i) (l .before .args .m) (omega arith) (omega arith) in record { fits = omega arith }
+    let l = c .before .before .before .before in
+    let q = few (l .loop .i) (l .before .args .m) (omega arith) (omega arith) in record { fits = omega arith }
 
 outside-in-requires : tie.Need-outside-in-requires Inv-loop μ-loop
 outside-in-requires c κs =
@@ -75,21 +78,6 @@ returns-2 c =
 pub above-in-spec : {M : Type 1} → statement M
 above-in-spec =
     tie.close
-    (tie.spec
-    Inv-loop
-    μ-loop
-    loop-holds
-    (λ c. search needs)
-    (λ c. search needs)
-    slice-aggregate-outside-in
-    mul-outside-in
-    mul-outside-in-2
-    add-outside-in
-    outside-in-requires
-    (λ c. search needs)
-    returns
-    (λ c. search needs)
-    (λ c. search needs)
-    (λ c. search needs)
-    loop-again
-    returns-2)
+    (tie.spec Inv-loop μ-loop loop-holds (λ c. search needs) (λ c. search needs) slice-aggregate-outside-in mul-outside-in
+    mul-outside-in-2 add-outside-in outside-in-requires (λ c. search needs) returns (λ c. search needs) (λ c. search needs)
+    (λ c. search needs) loop-again returns-2)

@@ -21,7 +21,8 @@ loop-holds c = (zero-le, list-none _ _ _)
 put-requires : tie.Need-put-requires Inv-loop μ-loop
 put-requires c κs =
     let t = c .before .before in
-    let l = t .before in (list-room _ (l .loop .i) (l .before .before .before .pre) (t .loop-test .taken) (l .loop .inv .1), c .number .ensures .1)
+    let l = t .before in
+    (list-room _ (l .loop .i) (l .before .before .before .pre) (t .loop-test .taken) (l .loop .inv .1), c .number .ensures .1)
 
 loop-again : tie.Need-loop-again Inv-loop μ-loop
 loop-again c =
@@ -40,14 +41,5 @@ returns c =
 pub put-all-spec : {M : Type 1} → statement M
 put-all-spec =
     tie.close
-    (tie.spec
-    Inv-loop
-    μ-loop
-    loop-holds
-    (λ c κs. search needs)
-    put-requires
-    (λ c. search needs)
-    (λ c. search needs)
-    loop-again
-    same-length
-    returns)
+    (tie.spec Inv-loop μ-loop loop-holds (λ c κs. search needs) put-requires (λ c. search needs) (λ c. search needs) loop-again
+    same-length returns)

@@ -1,0 +1,31 @@
+-- `engine::settled_grid` meets its contract: what is feasible is filled, stays filled, and is settled.
+use borrow.Author.Needs.{needs}
+use Rattle.sheet.proofs.Shapes.{is-grid}
+use Rattle.engine.proofs.Starting.{sheet-full}
+use Rattle.engine.proofs.settled_grid.Statement.{statement}
+use Rattle.engine.proofs.settled_grid.Tie as tie
+
+fill-requires : tie.Need-fill-requires
+fill-requires c κs =
+    let b = c .before .before in
+    let bounds = b .pre .0 .ranged in
+    ((bounds .seats-most, bounds .windows-most), (is-grid (b .args .grid) _ (b .good .0) .shape, b .pre .1))
+
+settle-requires : tie.Need-settle-requires
+settle-requires c κs =
+    let evened = c .before in
+    let filled = evened .before .before .before in
+    let b = filled .before .before .before in
+    let a = b .args in
+    let f = evened .even-out .ensures (a .t .supplies) (filled .fill .ensures) in
+    (b .pre .0, sheet-full (a .t) (a .t3) (c .from-grid .result) _ (c .from-grid .ensures) f)
+
+pub settled-grid-spec : {M : Type 1} → statement M
+settled-grid-spec =
+    tie.close
+    (tie.spec
+    fill-requires
+    (λ c κs. search needs)
+    (λ c κs. search needs)
+    settle-requires
+    (λ c. search needs))
