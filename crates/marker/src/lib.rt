@@ -19,6 +19,7 @@ use exchange::Kind;
 use instance::Terms;
 use lawful::check_file;
 use moves::write_moves;
+use sheet::Caps;
 use sheet::Sheet;
 use waste::Waste;
 use waste::wasted;
@@ -82,7 +83,7 @@ impl Marking {
 }
 
 // Marks 2 to 4, of a sheet that is not wasteful.
-fn mark_full(sheet: Sheet, caps: [[u16; 24]; 32], t: Terms, moves: &mut [u8]) -> Marking
+fn mark_full(sheet: Sheet, caps: Caps, t: Terms, moves: &mut [u8]) -> Marking
     requires { ⌜ Small t caps × Feasible (instanceIn t caps) (credit sheet) ⌝ }
     requires { ⌜ movesRoom ≤ length (now moves) ⌝ }
     ensures { λ r. ⌜ ((b : model.Book) (s : model.Grid) → Told (model.instanceOf b) t caps → Shows t (model.cell s) sheet →
@@ -104,7 +105,7 @@ fn mark_full(sheet: Sheet, caps: [[u16; 24]; 32], t: Terms, moves: &mut [u8]) ->
 }
 
 // The mark of a lawful sheet in memory.
-fn mark_sheet(book: Book, caps: [[u16; 24]; 32], sheet: Sheet, moves: &mut [u8]) -> Marking
+fn mark_sheet(book: Book, caps: Caps, sheet: Sheet, moves: &mut [u8]) -> Marking
     requires { ⌜ Markable book caps sheet ⌝ }
     requires { ⌜ movesRoom ≤ length (now moves) ⌝ }
     ensures { λ r. ⌜ MarkedAs (bookIn book caps) (cellsIn book sheet) (markOf (bookIn book caps) (cellsIn book sheet))

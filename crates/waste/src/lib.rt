@@ -5,6 +5,7 @@ ghost use Rattle.dayfile.specs.Memory.{found, bookIn, cellsIn};
 ghost use Rattle.waste.specs.Wastes.{lowestBelow, Tells};
 use dayfile::Book;
 use dayfile::Found;
+use sheet::Caps;
 use sheet::Sheet;
 
 // The lowest window that is wasted, and the lowest seat below its cap there, counted from 0.
@@ -14,7 +15,7 @@ pub enum Waste {
 }
 
 // The lowest seat that is below its cap in a window.
-fn seat_below(cells: &[[u16; 24]; 32], caps: &[[u16; 24]; 32], seats: usize, window: usize) -> Found
+fn seat_below(cells: &Caps, caps: &Caps, seats: usize, window: usize) -> Found
     requires { ⌜ (seats ≤ 32) × (window < 24) ⌝ }
     ensures { λ r. ⌜ found r ≡ lowestBelow (now (cells .entry)) (now (caps .entry)) seats window ⌝ }
 {
@@ -29,7 +30,7 @@ fn seat_below(cells: &[[u16; 24]; 32], caps: &[[u16; 24]; 32], seats: usize, win
 }
 
 // Paper 01's mark 1, or that the sheet is not wasteful.
-pub fn wasted(book: Book, caps: [[u16; 24]; 32], sheet: Sheet) -> Waste
+pub fn wasted(book: Book, caps: Caps, sheet: Sheet) -> Waste
     requires { ⌜ (book .seats ≤ 32) × (book .windows ≤ 24) ⌝ }
     ensures { λ r. ⌜ Tells (bookIn book caps) (cellsIn book sheet) r ⌝ }
 {
