@@ -65,7 +65,8 @@ module _ (f : List ℕ) (bytes : Bytes f) (accepted : NoneHolds (readLines f)) (
   pub same-bytes : (before end : List ℕ) (w : Written) → length f ≤ length before → WritesDay (r .day) before end w →
       (w ≡ Whole (length f)) × (end ≡ front f before)
   same-bytes before end w long writes =
-      let none-here : firstOf (writeLines (fileIn (r .day)) (length before)) ≡ none = rw the-file (write-free f (length before) free long) in
+      let none-here : firstOf (writeLines (fileIn (r .day)) (length before)) ≡ none =
+      rw the-file (write-free f (length before) free long) in
       let gives = tells-answer writes none-here in (
         whole-of w (length f) (gives .1 .0 ∙ ap answer (gives .1 .1 .0 ∙ ap length the-file)),
         gives .1 .1 .1 ∙ ap (λ (file : List ℕ). front file before) the-file,
