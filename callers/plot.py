@@ -107,6 +107,7 @@ def main():
         "plan": table(tables["plan"], "plan", two + ["other method", "max flow"]),
         "mark": table(tables["mark"], "mark", two),
         "file": table(tables["file"], "the longest file", two),
+        "least": table(tables["least"], "one seat, one window", two),
         "seats": table(tables["seats"], "seats", two + ["other method"]),
         "windows": table(tables["windows"], "windows", two + ["other method"]),
     }

@@ -58,6 +58,7 @@ fn all_tables() {
     plan_table(&mut csv);
     mark_table(&mut csv);
     file_table(&mut csv);
+    least_table(&mut csv);
     growth_table(&mut csv, "seats", "plan by seats, 24 windows", (1..=8).map(|step| (4 * step, (4 * step, 24))));
     growth_table(&mut csv, "windows", "plan by windows, 32 seats", (1..=8).map(|step| (3 * step, (32, 3 * step))));
     std::fs::create_dir_all("target").and_then(|()| std::fs::write("target/speed.csv", csv)).expect("target/speed.csv");
@@ -69,7 +70,7 @@ fn line(csv: &mut String, table: &str, case: &str, names: &[&str], times: &Times
     let medians = times.medians();
     print!("{case:34}");
     for (name, time) in names.iter().zip(&medians) {
-        print!("{time:14.1}");
+        print!("{time:14.2}");
         writeln!(csv, "{table},{case},{name},{time:.2}").expect("a string takes every line");
     }
     writeln!(csv, "{table},{case},longest,{:.2}", times.longest()).expect("a string takes every line");
@@ -234,4 +235,21 @@ fn file_table(csv: &mut String) {
     heading("the longest file, 3,210 bytes", &names);
     line(csv, "file", "read", &names, &reading);
     line(csv, "file", "write", &names, &writing);
+}
+
+/// Planning and marking the smallest books: what a call costs that has next to nothing to do.
+fn least_table(csv: &mut String) {
+    let mut rng = Rng::new(17);
+    let (mut planning, mut marking) = (Times::default(), Times::default());
+    for _ in 0..BOOKS {
+        let book = books::dense(&mut rng, 1, 1);
+        let file = file_of(&book, None);
+        planning.add(side_by_side(&mut planners(&file)[..2], ROUNDS, 256));
+        let file = file_of(&book, Some(&planned(&book)));
+        marking.add(side_by_side(&mut markers(&file), ROUNDS, 256));
+    }
+    let names = names(&markers(&[]));
+    heading("one seat, one window", &names);
+    line(csv, "least", "plan", &names, &planning);
+    line(csv, "least", "mark", &names, &marking);
 }

@@ -1,2 +1,1 @@
 mod Laws
-pub mod Theorems

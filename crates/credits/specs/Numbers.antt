@@ -5,18 +5,17 @@ use mathlib.Core.List.{List}
 use mathlib.Core.Path.{_≡_}
 use Prim.Native.Nat.{ℕ}
 use lib.Dec.{eqb}
-use Rattle.model.specs.Marks.{Result}
-use Rattle.dayfile.specs.Table.{writeLines}
 use Rattle.dayfile.specs.Outcome.{Outcome, turnedAway, answer}
-use Rattle.dayfile.specs.Memory.{fileIn, written, Reads, Writes}
+use Rattle.dayfile.specs.Memory.{written, Reads, WritesDay}
 use Rattle.dayfile.specs.declared.Check as Check
 use Rattle.dayfile.specs.declared.Day.{Day}
 use Rattle.dayfile.specs.declared.Reading.{Reading}
 use Rattle.dayfile.specs.declared.Written.{Written}
 use Rattle.marker.specs.declared.Marking.{Marking}
-use Rattle.marker.specs.Marking.{told, Marks}
+use Rattle.marker.specs.declared.Numbers.{Numbers}
+use Rattle.marker.specs.Marking.{told, numbersOf, Marks}
 use Rattle.planner.specs.Planning.{Plans}
-use Rattle.report.specs.Report.{Lists}
+use Rattle.listing.specs.Calls.{Lists}
 use Rattle.credits.specs.declared.CreditsBook.{CreditsBook}
 use Rattle.credits.specs.declared.ReadResult.{ReadResult}
 use Rattle.credits.specs.declared.MarkResult.{MarkResult}
@@ -75,14 +74,13 @@ lengthAs (answer n) = record { refusal = 0; offset = 0; length = n }
 abbrev pub writeNumbers : Written → WriteResult
 writeNumbers w = lengthAs (written w)
 
--- mark, window, seat and number of moves as paper 01 has them
-abbrev pub resultAs : Outcome Result → MarkResult
-resultAs (turnedAway q) = record { refusal = q .number; offset = q .at; mark = 0; window = 0; seat = 0; moves = 0 }
-resultAs (answer m) =
-    record { refusal = 0; offset = 0; mark = m .mark; window = m .window; seat = m .seat; moves = m .moves }
+-- the numbers of the marker's answer
+abbrev pub markAs : Numbers → MarkResult
+markAs n =
+    record { refusal = n .refusal; offset = n .offset; mark = n .mark; window = n .window; seat = n .seat; moves = n .moves }
 
 abbrev pub markNumbers : Marking → MarkResult
-markNumbers m = resultAs (told m)
+markNumbers m = markAs (numbersOf (told m))
 
 -- ---- the contracts
 
@@ -92,8 +90,7 @@ ReadsAs file r = InNumbers readNumbers (Reads file) r
 
 -- credits_write
 abbrev pub WritesAs : CreditsBook → (before after : List ℕ) → WriteResult → Type 0
-WritesAs c before after r =
-    InNumbers writeNumbers (Writes (writeLines (fileIn (dayFrom c))) (fileIn (dayFrom c)) before after) r
+WritesAs c before after r = InNumbers writeNumbers (WritesDay (dayFrom c) before after) r
 
 -- credits_mark
 abbrev pub MarksAs : (file before after : List ℕ) → MarkResult → Type 0

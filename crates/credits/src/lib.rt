@@ -1,15 +1,24 @@
 // The library for C, Rust and Python: every public call, exported. What crosses is numbers, slices and #[repr(C)] structs of numbers, laid
 // out as include/credits.h says. The contracts are in specs/Numbers.antt.
-ghost use mathlib.Core.Option.{none};
 ghost use mathlib.Core.Path.{_≡_};
-ghost use Prim.Native.Nat.{_≤_};
-ghost use Rattle.dayfile.specs.Layout.{bookOf, sheetOf};
-ghost use Rattle.dayfile.specs.Memory.{written};
 ghost use Rattle.marker.specs.Marking.{told};
-ghost use Rattle.credits.specs.Numbers.{Keeps, noBook, ReadsAs, writeResult, WritesAs, markResult, MarksAs, PlansAs, ListsAs};
+ghost use Rattle.credits.specs.Numbers.{
+  bookFrom,
+  dayFrom,
+  readNumbers,
+  writeNumbers,
+  markNumbers,
+  ReadsAs,
+  WritesAs,
+  MarksAs,
+  PlansAs,
+  ListsAs,
+};
 ghost use Rattle.credits.specs.Steps.{Small};
 use dayfile::Book;
 use dayfile::Check;
+use dayfile::Day;
+use dayfile::Reading;
 use dayfile::Written;
 use marker::Marking;
 use sheet::Sheet;
@@ -97,38 +106,19 @@ impl WriteResult {
 }
 
 impl MarkResult {
-    fn new(
-        refusal: u8,
-        offset: usize,
-        mark: u32,
-        window: usize,
-        seat: usize,
-        moves: usize,
-    ) -> MarkResult
-        requires { ⌜ (window ≤ 32) × (seat ≤ 32) × (moves ≤ 32) ⌝ }
-        ensures { λ r. ⌜ r ≡ record { refusal = refusal; offset = offset; mark = mark; window = window; seat = seat; moves = moves } ⌝ }
-    {
-        MarkResult {
-            refusal: refusal as u32,
-            offset,
-            mark,
-            window: window as u32,
-            seat: seat as u32,
-            moves: moves as u32,
-        }
-    }
-
     // What the marker says, in numbers.
     fn of(m: Marking) -> MarkResult
         requires { ⌜ Small (told m) ⌝ }
-        ensures { λ r. ⌜ r ≡ markResult (told m) ⌝ }
+        ensures { λ r. ⌜ r ≡ markNumbers m ⌝ }
     {
-        match m {
-            Marking::Refused { number, at } => MarkResult::new(number, at, 0, 0, 0, 0),
-            Marking::Wasteful { window, seat } => MarkResult::new(0, 0, 1, window, seat, 0),
-            Marking::Improvable { moves } => MarkResult::new(0, 0, 2, 0, 0, moves),
-            Marking::Tied { moves } => MarkResult::new(0, 0, 3, 0, 0, moves),
-            Marking::Settled => MarkResult::new(0, 0, 4, 0, 0, 0),
+        let n = m.numbers();
+        MarkResult {
+            refusal: n.refusal as u32,
+            offset: n.offset,
+            mark: n.mark as u32,
+            window: n.window as u32,
+            seat: n.seat as u32,
+            moves: n.moves as u32,
         }
     }
 }
@@ -217,5 +207,5 @@ pub extern "C" fn credits_plan(file: &[u8], out: &mut [u8]) -> WriteResult
 pub extern "C" fn credits_listing(file: &[u8], out: &mut [u8]) -> WriteResult
     ensures { λ r. ⌜ ListsAs (now (file .entry)) (now (out .entry)) (now (out .exit)) r ⌝ }
 {
-    WriteResult::of(report::listing(file, out))
+    WriteResult::of(listing::listing(file, out))
 }

@@ -61,7 +61,8 @@ module _ (b : Book) (s : Option Grid) (d : Day) (fit : Fit b) (h : Holds b s d) 
   held-book =
       ap₂ (λ (x y : List ℕ). made x y (sizedGrid (d .book .seats) (d .book .windows) (gridOf (d .caps))))
       (again (seats b) 32 (d .book .seats) (b .classes) (d .book .classes) (h .seats-are) (h .classes-are) (fit .seats-high) refl)
-      (again (windows b) 24 (d .book .windows) (b .supplies) (d .book .supplies) (h .windows-are) (h .supplies-are) (fit .windows-high) refl)
+      (again (windows b) 24 (d .book .windows) (b .supplies) (d .book .supplies) (h .windows-are) (h .supplies-are)
+      (fit .windows-high) refl)
       ∙ ap (made (b .classes) (b .supplies))
       (ap (sizedGrid (d .book .seats) (d .book .windows)) (h .caps-are) ∙ grid-again (b .caps) (fit .cap-shape))
 

@@ -15,6 +15,7 @@ pub mod ReadWrites
 pub mod Accepted
 pub mod Lengths
 pub mod Held
+pub mod Used
 pub mod Theorems
 pub mod Readings
 pub mod Examples

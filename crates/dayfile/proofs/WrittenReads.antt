@@ -177,21 +177,17 @@ module _ (b : Book) (o : Option Grid) (fit : Fit b) (sheet : SheetFit b o) where
   even-right low high n h k =
       ap₂ (λ (x y : Bool). x && y) (is-within low high (2 * n) h k) (eq-eqb (2 * n % 2) 0 (omega arith))
 
+  size-none : (e high n : ℕ) → size f e ≡ 2 * n → 1 ≤ n → 2 * n ≤ high → when (not (sizeRight 2 high (size f e))) (sizeAt e) ≡ none
+  size-none e high n q l h =
+      ap (λ (t : Bool). when (not t) (sizeAt e)) (ap (sizeRight 2 high) q ∙ even-right 2 high n (omega arith) h)
+
   at7 : line7 f ≡ none
   unfolding line7
-  at7 =
-      let l = fit .seats-low in
-      let h = fit .seats-high in
-      ap (λ (t : Bool). when (not t) (sizeAt 0))
-      (ap (sizeRight 2 64) (size-f 0 (omega arith)) ∙ even-right 2 64 S (omega arith) (omega arith))
+  at7 = size-none 0 64 S (size-f 0 (omega arith)) (fit .seats-low) (omega (arith, fit .seats-high))
 
   at8 : line8 f ≡ none
   unfolding line8
-  at8 =
-      let l = fit .windows-low in
-      let h = fit .windows-high in
-      ap (λ (t : Bool). when (not t) (sizeAt 1))
-      (ap (sizeRight 2 48) (size-f 1 (omega arith)) ∙ even-right 2 48 W (omega arith) (omega arith))
+  at8 = size-none 1 48 W (size-f 1 (omega arith)) (fit .windows-low) (omega (arith, fit .windows-high))
 
   grid-if : (e : ℕ) → e < length ps → (t : Bool) → within 3 4 (nth ps e .sort) ≡ t
       → (within 3 4 (nth ps e .sort) ≡ true → length (nth ps e .body) ≡ S * W)

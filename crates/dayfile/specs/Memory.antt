@@ -9,6 +9,7 @@ use lib.ListN.{length, getD, drop}
 use Rattle.fairness.specs.Leximin.{table}
 use Rattle.model.specs.Lowest.{getOr, isSome}
 use Rattle.model.specs.Book.{Book, Grid, seats, windows}
+use Rattle.sheet.specs.declared.Sheet.{Sheet}
 use Rattle.sheet.specs.Sheets.{gridOf}
 use Rattle.dayfile.specs.Layout.{bookOf, sheetOf}
 use Rattle.dayfile.specs.File.{fileOf}
@@ -40,6 +41,10 @@ bookIn m caps =
       supplies = sized (m .windows) (m .supplies);
       caps = sizedGrid (m .seats) (m .windows) caps;
     }
+
+-- the used cells of a sheet that is in memory
+abbrev pub cellsIn : Memory.Book → Sheet → Grid
+cellsIn m sheet = sizedGrid (m .seats) (m .windows) (gridOf sheet)
 
 -- the sheet that is in memory, if there is one
 abbrev pub sheetIn : Memory.Book → Bool → Grid → Option Grid

@@ -5,8 +5,10 @@ ghost use mathlib.Core.Bool.{not};
 ghost use mathlib.Core.List.{[], _∷_};
 ghost use Prim.Native.Nat.{_+_, _<_};
 ghost use Rattle.model.specs.Lowest.{when};
+ghost use Rattle.sheet.specs.Sheets.{gridOf};
 ghost use Rattle.dayfile.specs.Table.{within, line, firstOf};
 ghost use Rattle.dayfile.specs.Memory.{found, refused};
+use sheet::Caps;
 use sheet::Sheet;
 
 // The last kind that is known.
@@ -48,6 +50,20 @@ pub struct Day {
     pub caps: Sheet,
     pub has_sheet: bool,
     pub sheet: Sheet,
+}
+
+impl Day {
+    // A book with these caps, and a sheet or its absence.
+    pub fn new(book: Book, caps: Caps, has_sheet: bool, sheet: Caps) -> Day
+        ensures { λ r. ⌜ (r .book ≡ book) × (gridOf (r .caps) ≡ caps) × (r .«has_sheet» ≡ «has_sheet») × (gridOf (r .sheet) ≡ sheet) ⌝ }
+    {
+        Day {
+            book,
+            caps: Sheet::from_grid(caps),
+            has_sheet,
+            sheet: Sheet::from_grid(sheet),
+        }
+    }
 }
 
 // What the reader answers: a refusal and a day of zeros, or the day of the file.

@@ -1,33 +1,36 @@
 -- What the marker passes, what its chain does, and what the planner writes. Assumes nothing.
 use mathlib.Core.Path.{_≡_, refl, sym, ap, subst, _∙_}
 use mathlib.Core.List.{List}
-use mathlib.Core.Logic.{inl, inr, _↔_}
+use mathlib.Core.Logic.{inl, inr, ⊎-elim, _↔_}
 use mathlib.Core.Option.{none}
 use Prim.Native.Nat.{ℕ, _≤_}
 use native.Mathlib.Omega.{arith}
 use lib.ListN.{length, take}
-use Rattle.fairness.specs.Instance.{Wasteful}
-use Rattle.fairness.specs.Leximin.{Level, NoHigher, Equal}
-use Rattle.model.specs.Book.{Book, Grid, cell, instanceOf}
+use Rattle.fairness.specs.Instance.{Instance, Wasteful}
+use Rattle.fairness.specs.Leximin.{Level, NoHigher, Equal, Higher, SameProfile}
+use Rattle.fairness.proofs.Theorems.{same-not-higher, same-symmetric, same-transitive, higher-transitive}
+use Rattle.model.specs.Book.{Book, Grid, SheetOf, Lawful, cell, instanceOf}
 use Rattle.model.specs.Fair.{profileOf, HighestList}
 use Rattle.model.specs.Marks.{Mark, wasteful, improvable, tied, settled, Result, markOf, resultOf}
 use Rattle.model.proofs.Marks.{mark-means, waste-of}
+use Rattle.model.proofs.Theorems as model
 use Rattle.dayfile.specs.declared.Written.the-variants.{Whole}
 use Rattle.dayfile.specs.Layout.{bookOf}
-use Rattle.dayfile.specs.Table.{firstOf, markLines, planLines, plannedLength}
+use Rattle.dayfile.specs.Table.{markLines, planLines, movesRoom}
 use Rattle.dayfile.specs.Outcome.{answer, NoneHolds}
-use Rattle.dayfile.proofs.Answers.{answered}
+use Rattle.dayfile.proofs.Answers.{answered, answer-none}
 use Rattle.dayfile.proofs.Lines.{none-holds}
 use Rattle.marker.specs.declared.Marking.{Marking}
 use Rattle.marker.specs.declared.Marking.the-variants.{Refused, Improvable, Tied, Settled}
 use Rattle.marker.specs.declared.Marking.the-variants as variants
 use Rattle.marker.specs.Marking.{sheetIn, told, Passing, Marks}
-use Rattle.marker.proofs.Taken.{book-is, sheet-in, none-hold}
+use Rattle.lawful.proofs.Taken.{book-is, sheet-in, none-hold}
 use Rattle.marker.proofs.Theorems as marker
-use Rattle.planner.specs.Planning.{planFile, Plans}
+use Rattle.planner.specs.Planning.{Plans}
 use Rattle.planner.proofs.Theorems as planner
 use Rattle.demands.specs.Demands.{Marked, Improves, PlannedFile}
 use Rattle.demands.proofs.Files.{taken}
+use Rattle.demands.proofs.Marked.{marked-4}
 
 -- equal answers have equal results
 result-of : (x y : Result) → answer x ≡ answer y → x ≡ y
@@ -55,6 +58,23 @@ module _ (file : List ℕ) (b : Book) (s : Grid) (before after : List ℕ) (r : 
   passes-exactly xs h =
       rw (the-book, the-sheet) at (marker.passes-exactly file before after r (m .marks) free xs (rw the-book h))
 
+  -- no lawful sheet has a higher list than one that passes
+  pub passing-highest : Passing (told r) → (t : Grid) → SheetOf b t → Lawful b t → Higher NoHigher (profileOf b s) (profileOf b t) → ⊥
+  passing-highest passing t a-sheet lawful higher =
+      let I : Instance = instanceOf b in
+      let proper = model.proper b in
+      let top = model.highest-list-exists b in
+      let u : Grid = top .1 .sheet in
+      let same : SameProfile I (cell s) (cell u) = rw (← top .1 .its-list) at (passes-exactly (top .0) (top .1) .0 passing) in
+      ⊎-elim
+      (λ e.
+      let back = same-symmetric I (cell t) (cell u) (rw (← top .1 .its-list) at e) in
+      same-not-higher I (cell s) (cell t) (same-transitive I proper (cell s) (cell u) (cell t) same back) higher)
+      (λ e.
+      let on = higher-transitive I proper (cell s) (cell t) (cell u) higher (rw (← top .1 .its-list) at e) in
+      same-not-higher I (cell s) (cell u) same on)
+      (top .1 .most t a-sheet lawful)
+
   answers : told r ≡ answer (resultOf (markOf b s))
   answers = rw (the-book, the-sheet) at (marker.answers file before after r (m .marks) free)
 
@@ -77,10 +97,7 @@ module _ (file : List ℕ) (b : Book) (s : Grid) (before after : List ℕ) (r : 
 
 module _ (file before after : List ℕ) (n : ℕ) (plans : Plans file before after (Whole n)) where
   planned-free : NoneHolds (planLines file (length before))
-  unfolding planFile
-  planned-free =
-      none-holds (planLines file (length before))
-      (answered (firstOf (planLines file (length before))) (plannedLength (bookOf file)) n (sym (plans .says)) .0)
+  planned-free = none-holds (planLines file (length before)) (answer-none plans n refl .0)
 
   the-planned : take n after ≡ planner.theFile file before after (Whole n) plans planned-free
   the-planned =
@@ -96,10 +113,14 @@ module _ (file before after : List ℕ) (n : ℕ) (plans : Plans file before aft
         reads-back = rw the-planned (planner.reads-back file before after (Whole n) plans planned-free);
         lawful = planner.planned file before after (Whole n) plans planned-free .settled .feasible;
         highest = planner.highest file before after (Whole n) plans planned-free;
+        ordered = planner.planned file before after (Whole n) plans planned-free .settled .ordered;
         totals-are = planner.settled-totals file before after (Whole n) plans planned-free;
       }
 
-  pub planned-passes : (moves moves′ : List ℕ) (r : Marking) → 93 ≤ length moves → Marks (take n after) moves moves′ r →
+  pub planned-passes : (moves moves′ : List ℕ) (r : Marking) → movesRoom ≤ length moves → Marks (take n after) moves moves′ r →
       told r ≡ answer (record { mark = 4; window = 0; seat = 0; moves = 0 })
   planned-passes moves moves′ r long marks =
-      planner.marked-4 file before after (Whole n) plans planned-free moves moves′ r (rw the-planned at marks) long
+      let sheet = planner.planned file before after (Whole n) plans planned-free in
+      let back = planner.reads-back file before after (Whole n) plans planned-free in
+      let whole = planner.theFile file before after (Whole n) plans planned-free in
+      marked-4 whole (bookOf file) (sheet .sheet) back (sheet .settled) moves moves′ r long (rw the-planned at marks)

@@ -9,19 +9,18 @@ use lib.ListN.{length, take, drop}
 use lib.Seq.{take-at}
 use Rattle.dayfile.specs.Layout.{Bytes, bookOf, sheetOf}
 use Rattle.dayfile.specs.File.{fileOf}
-use Rattle.dayfile.specs.Table.{Refusal, firstOf, line16, readLines}
+use Rattle.dayfile.specs.Table.{firstOf, line16, readLines}
 use Rattle.dayfile.specs.Table.{contentsLines, lengthLines, valueLines, optionLines, bufferLines, writeLines}
-use Rattle.dayfile.specs.Outcome.{answer, unless, readFile, NoneHolds}
-use Rattle.dayfile.specs.Memory.{bookIn, sheetIn, fileIn, front, written, after}
+use Rattle.dayfile.specs.Outcome.{answer, readFile, NoneHolds}
+use Rattle.dayfile.specs.Memory.{dayBook, daySheet, fileIn, front, written, Reads, WritesDay}
+use Rattle.dayfile.specs.declared.Day.{Day}
+use Rattle.dayfile.specs.declared.Reading.{Reading}
 use Rattle.dayfile.specs.declared.Written.{Written}
 use Rattle.dayfile.specs.declared.Written.the-variants.{Refused, Whole}
-use Rattle.dayfile.proofs.Answers.{answered}
+use Rattle.dayfile.proofs.Answers.{answer-none, tells-answer}
 use Rattle.dayfile.proofs.Lines.{none-first-of, none-holds, none-parts, on-after}
-use Rattle.dayfile.proofs.Sound.{sound}
-use Rattle.dayfile.proofs.Accepted.{fits, sheet-fits}
-use Rattle.dayfile.proofs.Held.{held-book, held-sheet}
+use Rattle.dayfile.proofs.Readings.{read-day}
 use Rattle.dayfile.proofs.Theorems.{accepted-exactly, read-writes-back, memory-reads-back}
-use Rattle.demands.specs.Demands.{Answers, Reads, WritesFrom, fileFrom}
 
 -- the front of a buffer
 pub taken : (file before : List ℕ) (n : ℕ) → n ≡ length file → take n (front file before) ≡ file
@@ -60,13 +59,14 @@ module _ (f : List ℕ) (bytes : Bytes f) (accepted : NoneHolds (readLines f)) (
   the-file : fileIn (r .day) ≡ f
   unfolding fileIn
   the-file =
-      let held = holds-accepted f (r .day) free (reads-day f r h free) in
+      let held = read-day f r h free in
       ap₂ fileOf (held .0) (held .1) ∙ read-writes-back f (bookOf f) (sheetOf f) bytes (accepted-exactly f .1 accepted)
 
   pub same-bytes : (before end : List ℕ) (w : Written) → length f ≤ length before → WritesDay (r .day) before end w →
       (w ≡ Whole (length f)) × (end ≡ front f before)
   same-bytes before end w long writes =
-      let none-here : firstOf (writeLines (fileIn (r .day)) (length before)) ≡ none = rw the-file (write-free f (length before) free long) in
+      let none-here : firstOf (writeLines (fileIn (r .day)) (length before)) ≡ none =
+      rw the-file (write-free f (length before) free long) in
       let gives = tells-answer writes none-here in (
         whole-of w (length f) (gives .1 .0 ∙ ap answer (gives .1 .1 .0 ∙ ap length the-file)),
         gives .1 .1 .1 ∙ ap (λ (file : List ℕ). front file before) the-file,

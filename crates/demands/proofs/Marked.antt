@@ -14,7 +14,7 @@ use Rattle.dayfile.specs.Outcome.{answer, unless, readFile}
 use Rattle.dayfile.proofs.Lines.{none-first-of}
 use Rattle.marker.specs.declared.Marking.{Marking}
 use Rattle.marker.specs.Marking.{sheetIn, markFile, told, results, Marks}
-use Rattle.marker.proofs.Taken.{book-is, sheet-in, sheet-shape, none-hold}
+use Rattle.lawful.proofs.Taken.{book-is, sheet-in, sheet-shape, none-hold}
 use Rattle.marker.proofs.Theorems.{marks-says}
 
 module _ (f : List ℕ) (b : Book) (s : Grid) (read : readFile f ≡ answer (b, some s)) (done : Settled (instanceOf b) (cell s)) where

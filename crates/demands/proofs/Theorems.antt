@@ -4,7 +4,7 @@ use Rattle.demands.specs.Demands.{Demand1, Demand2, Demand3}
 use Rattle.demands.proofs.Outcomes.{first}
 use Rattle.demands.proofs.Documents.{lawful-frugal, wasteful-not-non-wasteful}
 use Rattle.demands.proofs.Files.{reads-back, same-bytes}
-use Rattle.demands.proofs.Fairness.{passes-exactly, fails, planned, planned-passes}
+use Rattle.demands.proofs.Fairness.{passes-exactly, passing-highest, fails, planned, planned-passes}
 
 -- each call gives a defined outcome or a numbered refusal, and a refusal changes no byte
 pub demand-1 : Demand1
@@ -27,6 +27,7 @@ demand-3 =
       highest-exists = highest-list-exists;
       highest-one = highest-lists-equal;
       passes-exactly = passes-exactly;
+      passing-highest = passing-highest;
       fails = fails;
       planned = planned;
       planned-passes = planned-passes;

@@ -1,34 +1,31 @@
--- The three demands, each as one statement over the contracts of the public calls: the reader's and the writer's as below, the marker's
--- `Marks`, the planner's `Plans`, the listing's `Lists`. Proved in proofs/Theorems.antt.
+-- The three demands, each as one statement over the contracts of the public calls: the reader's `Reads`, the writer's `WritesDay`, the
+-- marker's `Marks`, the planner's `Plans`, the listing's `Lists`. Proved in proofs/Theorems.antt.
 use mathlib.Core.Path.{_≡_}
-use mathlib.Core.Bool.{Bool}
 use mathlib.Core.List.{List, []}
 use mathlib.Core.Logic.{_↔_, _⊎_}
-use mathlib.Core.Option.{Option, some}
+use mathlib.Core.Option.{some}
 use Prim.Native.Nat.{ℕ, _≤_, _<_}
 use lib.ListN.{length, take}
 use Rattle.fairness.specs.Sums.{sum}
 use Rattle.fairness.specs.Instance.{Instance, Sheet, Wasteful, Feasible}
 use Rattle.fairness.specs.Leximin.{Level, NoHigher, Equal, Higher, profile}
-use Rattle.fairness.specs.Exchange.{Settled, playAll, PlaysOut}
-use Rattle.model.specs.Lowest.{isSome}
-use Rattle.model.specs.Book.{Grid, Book, Lawful, cell, instanceOf, totals}
+use Rattle.fairness.specs.Exchange.{Settled, Tied, playAll, PlaysOut}
+use Rattle.model.specs.Book.{Grid, Book, SheetOf, Lawful, cell, instanceOf, totals}
 use Rattle.model.specs.Marks.{markOf, resultOf}
 use Rattle.model.specs.Fair.{profileOf, HighestList}
-use Rattle.dayfile.specs.declared.Check.{Check}
-use Rattle.dayfile.specs.declared.Book as Memory
+use Rattle.dayfile.specs.declared.Day.{Day}
+use Rattle.dayfile.specs.declared.Reading.{Reading}
 use Rattle.dayfile.specs.declared.Written.{Written}
-use Rattle.dayfile.specs.Layout.{bookOf, sheetOf, Bytes}
-use Rattle.dayfile.specs.Table.{firstOf, readLines, writeLines, Line, Refusal, markLines, planLines, bufferLines, plannedLength}
-use Rattle.dayfile.specs.Memory.{Holds, held, heldIf, fileIn, refused, Writes, written, reading, front, bookIn, sheetIn}
-use Rattle.dayfile.specs.Outcome.{Outcome, turnedAway, answer, NoneHolds, FirstHolds, readFile}
 use Rattle.dayfile.specs.declared.Written.the-variants.{Whole}
+use Rattle.dayfile.specs.Layout.{bookOf, sheetOf, Bytes}
+use Rattle.dayfile.specs.Table.{readLines, writeLines, markLines, planLines, bufferLines, plannedLength, movesRoom}
+use Rattle.dayfile.specs.Outcome.{answer, readFile, NoneHolds, Defined}
+use Rattle.dayfile.specs.Memory.{dayBook, daySheet, fileIn, front, written, reading, Reads, WritesDay}
 use Rattle.listing.specs.Listing.{listingMax}
+use Rattle.listing.specs.Calls.{Listed, Lists}
 use Rattle.marker.specs.declared.Marking.{Marking}
-use Rattle.marker.specs.Marking.{told, BufferAfter, Marks, movesIn, Passing}
-use Rattle.marker.specs.Marking as marker
+use Rattle.marker.specs.Marking.{sheetIn, told, BufferAfter, Marks, movesIn, Passing}
 use Rattle.planner.specs.Planning.{Planned, Plans}
-use Rattle.report.specs.Report.{Listed, Lists}
 
 -- ---- Demand 1: each call gives a defined outcome or a numbered refusal, and a refusal changes no byte.
 
@@ -44,15 +41,15 @@ pub record Demand1 : Type 0 where
   -- the marker's is the result of the mark that the rules give; marks 2 and 3 have their path at the buffer's front
   pub marker : (file before after : List ℕ) (r : Marking) → Marks file before after r →
       Defined (markLines file (length before)) before after (told r)
-      (λ x. (x ≡ resultOf (markOf (bookOf file) (marker.sheetIn file)))
-      × BufferAfter (bookOf file) (marker.sheetIn file) (markOf (bookOf file) (marker.sheetIn file)) before after)
+      (λ x. (x ≡ resultOf (markOf (bookOf file) (sheetIn file)))
+      × BufferAfter (bookOf file) (sheetIn file) (answer (markOf (bookOf file) (sheetIn file))) before after)
   -- the planner's is the planned file's length, and the file with a settled sheet stands at the buffer's front
   pub planner : (file before after : List ℕ) (r : Written) → Plans file before after r →
       Defined (planLines file (length before)) before after (written r)
       (λ n. (n ≡ plannedLength (bookOf file)) × Planned (bookOf file) before after)
   -- the listing's is the text's length, and the text stands at the buffer's front
   pub listing : (file before after : List ℕ) (r : Written) → Lists file before after r →
-      Defined (bufferLines (length before) listingMax) before after (written r) (λ n. Listed file before after r)
+      Defined (bufferLines (length before) listingMax) before after (written r) (Listed file before after)
 
 -- ---- Demand 2: lawful and wasteful are document 000's frugal and not non-wasteful; files written read back the same, and an accepted file
 -- written again has the same bytes.
@@ -88,7 +85,7 @@ pub record Demand2 : Type 0 where
 pub record Marked (file : List ℕ) (b : Book) (s : Grid) (before after : List ℕ) (r : Marking) : Type 0 where
   pub accepted : readFile file ≡ answer (b, some s)
   pub lawful : Lawful b s
-  pub long : 93 ≤ length before
+  pub long : movesRoom ≤ length before
   pub marks : Marks file before after r
 
 -- a chain of n moves at the front of a buffer, played on a sheet of the book, the first on the sheet as it is and each later one on what
@@ -98,13 +95,14 @@ pub record Improves (b : Book) (s : Grid) (n : ℕ) (buffer : List ℕ) : Type 0
   pub lawful : Feasible (instanceOf b) (playAll (cell s) (movesIn n buffer))
   pub higher : Higher NoHigher (profileOf b s) (profile (instanceOf b) (playAll (cell s) (movesIn n buffer)))
 
--- the first n bytes of a buffer are a file of this book with a sheet that is lawful and has the book's highest list, and all settled
--- sheets of the book have its totals
+-- the first n bytes of a buffer are a file of this book with a sheet that is lawful, has the book's highest list and follows the seat rule,
+-- and all settled sheets of the book have its totals
 pub record PlannedFile (b : Book) (n : ℕ) (buffer : List ℕ) : Type 0 where
   pub sheet : Grid
   pub reads-back : readFile (take n buffer) ≡ answer (b, some sheet)
   pub lawful : Lawful b sheet
   pub highest : HighestList b (profileOf b sheet)
+  pub ordered : Tied (instanceOf b) (cell sheet) → ⊥
   pub totals-are : (t : Grid) → Settled (instanceOf b) (cell t) → totals b t ≡ totals b sheet
 
 pub record Demand3 : Type 0 where
@@ -114,6 +112,9 @@ pub record Demand3 : Type 0 where
   -- the marker passes a lawful sheet exactly when its list equals the highest list of the book
   pub passes-exactly : (file : List ℕ) (b : Book) (s : Grid) (before after : List ℕ) (r : Marking) → Marked file b s before after r →
       (xs : List Level) → HighestList b xs → Passing (told r) ↔ Equal NoHigher (profileOf b s) xs
+  -- so no lawful sheet of the book has a higher list than a passing one
+  pub passing-highest : (file : List ℕ) (b : Book) (s : Grid) (before after : List ℕ) (r : Marking) → Marked file b s before after r →
+      Passing (told r) → (t : Grid) → SheetOf b t → Lawful b t → Higher NoHigher (profileOf b s) (profileOf b t) → ⊥
   -- a lawful sheet that fails and is not wasteful has a chain, and the chain improves
   pub fails : (file : List ℕ) (b : Book) (s : Grid) (before after : List ℕ) (r : Marking) → Marked file b s before after r →
       (Passing (told r) → ⊥) → (Wasteful (instanceOf b) (cell s) → ⊥) →
@@ -122,5 +123,5 @@ pub record Demand3 : Type 0 where
   pub planned : (file before after : List ℕ) (n : ℕ) → Plans file before after (Whole n) → PlannedFile (bookOf file) n after
   -- and the marker, given that file and any buffer that is long enough, answers mark 4
   pub planned-passes : (file before after : List ℕ) (n : ℕ) → Plans file before after (Whole n) →
-      (moves moves′ : List ℕ) (r : Marking) → 93 ≤ length moves → Marks (take n after) moves moves′ r →
+      (moves moves′ : List ℕ) (r : Marking) → movesRoom ≤ length moves → Marks (take n after) moves moves′ r →
       told r ≡ answer (record { mark = 4; window = 0; seat = 0; moves = 0 })

@@ -6,10 +6,12 @@ use crate::small::draw_cells;
 use crate::small::draw_small;
 use crate::up_to;
 use dayfile::Book;
+use dayfile::Day;
 use dayfile::Written;
 use oracle::Small;
 use oracle::memory::book_of;
 use oracle::memory::grid_of;
+use sheet::Caps;
 
 // A byte, if there is one at that offset.
 fn set(file: &mut [u8], at: usize, value: u8) {
@@ -54,7 +56,7 @@ fn draw_written(state: &mut u32, file: &mut [u8]) -> usize {
     let caps = grid_of(small);
     let there = below(state, 4) != 0;
     let sheet = grid_of(draw_sheet(state, s));
-    match writer::write(file, book_of(s), caps, there, sheet) {
+    match writer::write(file, Day::new(book_of(s), caps, there, sheet)) {
         Written::Whole { length } => length,
         Written::Refused { number: _, at: _ } => 0,
     }
@@ -159,7 +161,7 @@ pub fn damage_book(state: &mut u32, s: Small) -> Book {
 }
 
 // Caps of which one may be out of its range.
-pub fn damage_caps(state: &mut u32, s: Small) -> [[u16; 24]; 32] {
+pub fn damage_caps(state: &mut u32, s: Small) -> Caps {
     let mut cells = s.caps;
     if below(state, 4) == 0 {
         let k = below(state, 12) as usize;

@@ -2,6 +2,7 @@
 use crate::below;
 use crate::up_to;
 use dayfile::Book;
+use sheet::Caps;
 
 fn draw_classes(state: &mut u32) -> [u16; 32] {
     let mut classes = [0u16; 32];
@@ -30,7 +31,7 @@ fn draw_row(state: &mut u32, most: u16) -> [u16; 24] {
     row
 }
 
-pub fn draw_caps(state: &mut u32, most: u16) -> [[u16; 24]; 32] {
+pub fn draw_caps(state: &mut u32, most: u16) -> Caps {
     let mut caps = [[0u16; 24]; 32];
     for i in 0..32usize {
         let row = draw_row(state, most);

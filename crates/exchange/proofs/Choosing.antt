@@ -53,7 +53,8 @@ module _ (kind : Kind) (scores : Scores) (graph : Graph) (seats g wanted reached
 
 module _ (I : Instance) (S : Sheet) (scores : Scores) (s : Scored I S scores) where
   -- scores are those of the instance
-  test-same : (kind : Kind) (g l : ℕ) → g < I .seats → l < I .seats → testOf kind I S g l ≡ testBy kind (scoreAt scores g) (scoreAt scores l)
+  test-same : (kind : Kind) (g l : ℕ) → g < I .seats → l < I .seats
+      → testOf kind I S g l ≡ testBy kind (scoreAt scores g) (scoreAt scores l)
   unfolding improvesAt tiesAt
   test-same None g l a b = refl
   test-same Improving g l a b =

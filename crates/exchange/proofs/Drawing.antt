@@ -1,8 +1,8 @@
 -- The graph of a sheet shows the moves that are possible on it. Assumes nothing.
-use mathlib.Core.Path.{_≡_, refl, sym, _∙_}
+use mathlib.Core.Path.{_≡_, sym, _∙_}
 use mathlib.Core.Logic.{_⊎_, _↔_, inl, inr, ⊎-elim}
 use mathlib.Core.List.{List}
-use Prim.Native.Nat.{ℕ, zero, suc, _+_, _≤_, _<_}
+use Prim.Native.Nat.{ℕ, _+_, _<_}
 use native.Mathlib.Decide.{ℕ-discrete}
 use native.Mathlib.Omega.{arith}
 use lib.ListN.{length, getD, set, replicate}
@@ -23,23 +23,23 @@ use Rattle.exchange.specs.Steps.{Drawn}
 
 -- ---- a further holder
 
--- seat has a credit in window w, of those below n
-abbrev Holds : List ℕ → ℕ → ℕ → ℕ → ℕ → Type 0
-Holds cells seat n w i = (i ≡ seat) × ((w < n) × (0 < getD cells w 0))
+-- i is the seat, and has a credit in window w, of those below n
+abbrev HasHere : List ℕ → ℕ → ℕ → ℕ → ℕ → Type 0
+HasHere cells seat n w i = (i ≡ seat) × ((w < n) × (0 < getD cells w 0))
 
 -- the holders of the windows below n have the seat too, where it has a credit
 abbrev pub Added : List ℕ → List ℕ → ℕ → ℕ → List ℕ → Type 0
-Added holders cells seat n all = (w i : ℕ) → In i (setAt all w) ↔ (In i (setAt holders w) ⊎ Holds cells seat n w i)
+Added holders cells seat n all = (w i : ℕ) → In i (setAt all w) ↔ (In i (setAt holders w) ⊎ HasHere cells seat n w i)
 
 module _ (holders cells : List ℕ) (seat : ℕ) where
   pub added-first : Added holders cells seat 0 holders
   added-first w i = (inl, ⊎-elim (λ p. p) (λ h. absurd (omega (arith, h .1 .0))))
 
   module _ (n : ℕ) (all : List ℕ) (a : Added holders cells seat n all) where
-    more : (w i : ℕ) → Holds cells seat n w i → Holds cells seat (n + 1) w i
+    more : (w i : ℕ) → HasHere cells seat n w i → HasHere cells seat (n + 1) w i
     more w i h = (h .0, (omega (arith, h .1 .0), h .1 .1))
 
-    elsewhere : (w i : ℕ) → (w ≡ n → ⊥) → In i (setAt all w) ↔ (In i (setAt holders w) ⊎ Holds cells seat (n + 1) w i)
+    elsewhere : (w i : ℕ) → (w ≡ n → ⊥) → In i (setAt all w) ↔ (In i (setAt holders w) ⊎ HasHere cells seat (n + 1) w i)
     elsewhere w i d = (
       λ p. ⊎-elim inl (λ h. inr (more w i h)) (a w i .0 p),
       ⊎-elim (λ p. a w i .1 (inl p)) (λ h. a w i .1 (inr (h .0, (omega (arith, h .1 .0), h .1 .1)))),
@@ -58,7 +58,7 @@ module _ (holders cells : List ℕ) (seat : ℕ) where
 
     -- it has one
     module _ (v : ℕ) (long : n < length all) (has : 0 < getD cells n 0) (ins : Inserted (setAt all n) seat v) where
-      here : (i : ℕ) → In i v ↔ (In i (setAt holders n) ⊎ Holds cells seat (n + 1) n i)
+      here : (i : ℕ) → In i v ↔ (In i (setAt holders n) ⊎ HasHere cells seat (n + 1) n i)
       here i =
           elim (ℕ-discrete i seat) [
             | yes e ↦ (λ p. inr (e, (omega arith, has)), λ p. rw e (ins .here))
@@ -86,15 +86,15 @@ abbrev HasCredit : Sheet → ℕ → ℕ → ℕ → ℕ → Type 0
 HasCredit sheet windows n w k = (k < n) × ((w < windows) × (0 < credit sheet k w))
 
 -- the sets are the holders of each window among the seats below n
-abbrev pub Held : Sheet → ℕ → ℕ → List ℕ → Type 0
-Held sheet windows n sets = (w k : ℕ) → In k (setAt sets w) ↔ HasCredit sheet windows n w k
+abbrev pub HoldersOf : Sheet → ℕ → ℕ → List ℕ → Type 0
+HoldersOf sheet windows n sets = (w k : ℕ) → In k (setAt sets w) ↔ HasCredit sheet windows n w k
 
-pub held-first : (sheet : Sheet) (windows m : ℕ) → Held sheet windows 0 (replicate m 0)
+pub held-first : (sheet : Sheet) (windows m : ℕ) → HoldersOf sheet windows 0 (replicate m 0)
 held-first sheet windows m w k =
     (λ p. absurd (omega (arith, rw (zeros-at m w) at p, bit-zero k)), λ h. absurd (omega (arith, h .0)))
 
-pub held-next : (sheet : Sheet) (windows n : ℕ) (sets sets′ cells : List ℕ) → Held sheet windows n sets
-    → ((w : ℕ) → getD cells w 0 ≡ credit sheet n w) → Added sets cells n windows sets′ → Held sheet windows (n + 1) sets′
+pub held-next : (sheet : Sheet) (windows n : ℕ) (sets sets′ cells : List ℕ) → HoldersOf sheet windows n sets
+    → ((w : ℕ) → getD cells w 0 ≡ credit sheet n w) → Added sets cells n windows sets′ → HoldersOf sheet windows (n + 1) sets′
 held-next sheet windows n sets sets′ cells h same a w k = (to, from)
   where
     to : In k (setAt sets′ w) → HasCredit sheet windows (n + 1) w k
@@ -111,8 +111,8 @@ held-next sheet windows n sets sets′ cells h same a w k = (to, from)
           | no d ↦ a w k .1 (inl (h w k .1 (omega (arith, b .0), b .1)))
         ]
 
-module _ (sheet : Sheet) (caps : Grid) (t : Terms) (graph : Graph) (rooms : Rows (t .seats) (HasRoom sheet caps (t .windows)) (graph .rooms))
-    (held : Held sheet (t .windows) (t .seats) (graph .holders)) where
+module _ (sheet : Sheet) (caps : Grid) (t : Terms) (graph : Graph)
+    (rooms : Rows (t .seats) (HasRoom sheet caps (t .windows)) (graph .rooms)) (held : HoldersOf sheet (t .windows) (t .seats) (graph .holders)) where
   module _ (I : Instance) (S : ℕ → ℕ → ℕ) (told : Told I t caps) (shows : Shows t S sheet) where
     to : (k l w : ℕ) → Leads (setAt (graph .rooms) k) (graph .holders) l w → Possible I S (record { window = w; giver = l; taker = k })
     to k l w p =

@@ -28,11 +28,11 @@ Walk graph sets g r (m ∷ ms) l =
 
 -- ---- a move to a member of a set
 
-module _ (graph : Graph) (set giver windows : ℕ)
+module _ (graph : Graph) (giver windows : ℕ)
     (held : Collects (length (graph .holders)) (λ w. In giver (setAt (graph .holders) w)) windows) where
   -- who can take from the giver has room in one of the windows in which the giver has a credit
-  pub gives-meets : (k : ℕ) → In k set → Takes graph k giver → Meets set (graph .rooms) windows k
-  gives-meets k p t = record {
+  pub gives-meets : (set k : ℕ) → In k set → Takes graph k giver → Meets set (graph .rooms) windows k
+  gives-meets set k p t = record {
     member = p;
     shared = t .via;
     own = t .here .member;
@@ -85,8 +85,9 @@ stored ms r n m h l =
     let after = drop-set-lt (suc r) (take n ms) r m (omega arith) in
     rw (take-set-lt n ms r m, drop-cons (set (take n ms) r m) r m, getD-set-same (take n ms) r m m, after) refl
 
-pub step-back : (graph : Graph) (sets : List ℕ) (moves : List Move) (donor count r giver : ℕ) (m : Move) → r < count → count ≤ length moves
-    → GivesBy graph (setAt sets r) giver m → Fewest sets giver (suc r) → Walk graph sets giver (suc r) (drop (suc r) (take count moves)) donor
+pub step-back : (graph : Graph) (sets : List ℕ) (moves : List Move) (donor count r giver : ℕ) (m : Move) → r < count
+    → count ≤ length moves → GivesBy graph (setAt sets r) giver m → Fewest sets giver (suc r)
+    → Walk graph sets giver (suc r) (drop (suc r) (take count moves)) donor
     → Walk graph sets (m .taker) r (drop r (take count (set moves r m))) donor
 step-back graph sets moves donor count r giver m h l p f w =
     rw (stored moves r count m h l)

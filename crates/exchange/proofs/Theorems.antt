@@ -1,11 +1,11 @@
 -- What callers cite: the search in memory finds what the rules on lists say. Assumes nothing.
 use mathlib.Core.Path.{_≡_}
-use mathlib.Core.Bool.{Bool, true, false}
+use mathlib.Core.Bool.{Bool, false}
 use mathlib.Core.Option.{none, some}
 use Prim.Native.Nat.{ℕ}
 use native.Mathlib.Omega.{arith}
 use lib.ListN.{length}
-use Rattle.fairness.specs.Exchange.{Exchange, improvesAt, tiesAt}
+use Rattle.fairness.specs.Exchange.{improvesAt, tiesAt}
 use Rattle.fairness.proofs.Theorems.{improves-apart, ties-apart}
 use Rattle.model.specs.Book.{Book, Grid, cell, instanceOf}
 use Rattle.model.specs.Search.{Found, search, Picked}

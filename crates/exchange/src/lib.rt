@@ -1,6 +1,5 @@
 // The search for exchange paths, which the marker and settling call.
 ghost use mathlib.Core.Path.{_≡_};
-ghost use mathlib.Core.Bool.{true};
 ghost use mathlib.Core.Logic.{_⊎_, _↔_};
 ghost use Prim.Native.Nat.{ℕ, _≤_, _<_};
 ghost use lib.ListN.{getD};
@@ -11,7 +10,7 @@ ghost use Rattle.instance.specs.Terms.{instanceIn, Told, Shows, Ranged, Small};
 ghost use Rattle.masks.specs.Sets.{In};
 ghost use Rattle.reach.specs.Graphs.{setAt, Collects, Reached, Layers, Fewest};
 ghost use Rattle.exchange.specs.Paths.{movesOf, Writable, Answers};
-ghost use Rattle.exchange.specs.Tests.{testBy, scoreAt, Tested, Bounded, Scored, Wants};
+ghost use Rattle.exchange.specs.Tests.{testBy, Tested, Bounded, Scored, Wants};
 ghost use Rattle.exchange.specs.Steps.{Drawn, Firsts, Gives, GivesBy, Leading, Nearest};
 use instance::Terms;
 use reach::Graph;

@@ -63,28 +63,26 @@ listing-same n m r hc hs hp ht hv = rw (windows-same m hs hp, seats-same n hc ht
 
 -- ---- a book in memory
 
--- the numbers are those of the book and the sheet, and the first moves those of the list
-pub record InMemory (b : Book) (s : Grid) (ms : List Move) (classes supplies given summed moves : List ℕ) : Type 0 where
-  pub class : (i : ℕ) → i < seats b → getD classes i 0 ≡ getD (b .classes) i 0
-  pub supply : (j : ℕ) → j < windows b → getD supplies j 0 ≡ getD (b .supplies) j 0
-  pub window-placed : (j : ℕ) → j < windows b → getD given j 0 ≡ placed (instanceOf b) (cell s) j
-  pub seat-total : (i : ℕ) → i < seats b → getD summed i 0 ≡ total (instanceOf b) (cell s) i
-  pub rest : List ℕ
-  pub written : moves ≡ moveBytes ms ++ rest
+-- moves that stand at a buffer's front
+at-front : (ms : List Move) (rest : List ℕ) → Agree (length ms * 3) (moveBytes ms ++ rest) (moveBytes ms)
+at-front ms rest =
+    record { entry = λ k h. List·getD-append (moveBytes ms) rest 0 k (omega (arith, move-bytes-length ms)) }
 
-pub listing-is : {b : Book} {s : Grid} {ms : List Move} {classes supplies given summed moves : List ℕ} (r : Result)
-    → r .moves ≡ length ms → InMemory b s ms classes supplies given summed moves
-    → listingText (seats b) (windows b) classes supplies given summed r moves ≡ listingOf b s r ms
-unfolding listingOf totals
-listing-is {b} {s} {ms} r count h =
-    listing-same _ _ r
-    (record { entry = h .class })
-    (record { entry = h .supply })
-    (record { entry = λ j l. h .window-placed j l ∙ sym (table-at _ _ j 0 l) })
-    (record { entry = λ i l. h .seat-total i l ∙ sym (table-at _ _ i 0 l) })
-    (rw (h .written, count) (at-front ms (h .rest)))
+-- the numbers are those of the book and the sheet, and the moves ms stand first
+module _ (b : Book) (s : Grid) (ms : List Move) (rest classes supplies given summed moves : List ℕ)
+    (class : (i : ℕ) → i < seats b → getD classes i 0 ≡ getD (b .classes) i 0)
+    (supply : (j : ℕ) → j < windows b → getD supplies j 0 ≡ getD (b .supplies) j 0)
+    (window-placed : (j : ℕ) → j < windows b → getD given j 0 ≡ placed (instanceOf b) (cell s) j)
+    (seat-total : (i : ℕ) → i < seats b → getD summed i 0 ≡ total (instanceOf b) (cell s) i)
+    (written : moves ≡ moveBytes ms ++ rest)
   where
-    -- moves that stand at a buffer's front
-    at-front : (ms : List Move) (rest : List ℕ) → Agree (length ms * 3) (moveBytes ms ++ rest) (moveBytes ms)
-    at-front ms rest =
-        record { entry = λ k h. List·getD-append (moveBytes ms) rest 0 k (omega (arith, move-bytes-length ms)) }
+    pub listing-is : (r : Result) → r .moves ≡ length ms →
+        listingText (seats b) (windows b) classes supplies given summed r moves ≡ listingOf b s r ms
+    unfolding listingOf totals
+    listing-is r count =
+        listing-same _ _ r
+        (record { entry = class })
+        (record { entry = supply })
+        (record { entry = λ j l. window-placed j l ∙ sym (table-at _ _ j 0 l) })
+        (record { entry = λ i l. seat-total i l ∙ sym (table-at _ _ i 0 l) })
+        (rw (written, count) (at-front ms rest))

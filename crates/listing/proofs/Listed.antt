@@ -23,7 +23,7 @@ use Rattle.dayfile.proofs.Sound.{sound}
 use Rattle.dayfile.proofs.Accepted.{fits}
 use Rattle.marker.specs.declared.Marking.{Marking}
 use Rattle.marker.specs.Marking.{sheetIn, markFile, told, results, PathWritten, BufferAfter, Marks}
-use Rattle.marker.specs.Wastes.{cellsIn}
+use Rattle.dayfile.specs.Memory.{cellsIn}
 use Rattle.marker.proofs.Theorems.{marks-says, marks-buffer}
 use Rattle.marker.proofs.Files.{book-read, sheet-read}
 use Rattle.listing.specs.Listing.{listingOf, refusalLine, listingMax, Printed}

@@ -11,16 +11,15 @@ ghost use lib.ListN.{length};
 ghost use Rattle.fairness.specs.Exchange.{Move};
 ghost use Rattle.model.specs.Marks.{moveBytes};
 ghost use Rattle.dayfile.specs.Bounds.{Fit};
-ghost use Rattle.dayfile.specs.Memory.{dayBook};
+ghost use Rattle.dayfile.specs.Memory.{dayBook, cellsIn};
 ghost use Rattle.marker.specs.Marking.{resultIn};
-ghost use Rattle.marker.specs.Wastes.{cellsIn};
 ghost use Rattle.listing.specs.Listing.{listingText, listingOf, refusalLine, listingMax, refusalMax, Printed};
 ghost use Rattle.listing.specs.Calls.{Listed, Lists};
 use dayfile::Book;
 use dayfile::Day;
 use dayfile::Written;
+use lawful::MOVES_ROOM;
 use marker::Numbers;
-use marker::lines::MOVES_ROOM;
 use sums::Sums;
 use sums::sums_of;
 

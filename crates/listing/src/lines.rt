@@ -64,7 +64,8 @@ fn put_move_lines(out: &mut [u8], at: usize, moves: &[u8], count: usize) -> usiz
 // The first line, the windows and the seats.
 pub(crate) fn put_book_lines(out: &mut [u8], at: usize, book: Book, sums: Sums) -> usize
     requires { ⌜ (book .seats ≤ 32) × (book .windows ≤ 24) ⌝ }
-    requires { ⌜ Room (now out) at (bookLines (book .seats) (book .windows) (book .classes) (book .supplies) (sums .placed) (sums .totals)) ⌝ }
+    requires { ⌜ Room (now out) at
+        (bookLines (book .seats) (book .windows) (book .classes) (book .supplies) (sums .placed) (sums .totals)) ⌝ }
     ensures { λ r. ⌜ Stored (now (out .entry)) at
         (bookLines (book .seats) (book .windows) (book .classes) (book .supplies) (sums .placed) (sums .totals)) (now (out .exit)) r ⌝ }
 {

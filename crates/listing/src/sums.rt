@@ -25,25 +25,13 @@ fn totals(sheet: Sheet, seats: usize, windows: usize) -> [u32; 32]
     totals
 }
 
-// Each window's cells together.
-fn placed(sheet: Sheet, seats: usize, windows: usize) -> [u32; 24]
-    requires { ⌜ (seats ≤ 32) × (windows ≤ 24) ⌝ }
-    ensures { λ r. ⌜ ((j : ℕ) → j < windows → getD r j 0 ≡ sum seats (λ i. credit sheet i j)) ⌝ }
-{
-    let mut placed = [0u32; 24];
-    for j in 0..windows {
-        placed[j] = sheet.placed(j, seats);
-    }
-    placed
-}
-
-// Both.
+// Of the seats and windows that are used.
 pub fn sums_of(sheet: Sheet, seats: usize, windows: usize) -> Sums
     requires { ⌜ (seats ≤ 32) × (windows ≤ 24) ⌝ }
     ensures { λ r. ⌜ ((j : ℕ) → j < windows → getD (r .placed) j 0 ≡ sum seats (λ i. credit sheet i j)) ⌝ }
     ensures { λ r. ⌜ ((i : ℕ) → i < seats → getD (r .totals) i 0 ≡ sum windows (λ j. credit sheet i j)) ⌝ }
 {
-    let placed = placed(sheet, seats, windows);
+    let placed = sheet.placed(seats, windows);
     let totals = totals(sheet, seats, windows);
     Sums { placed, totals }
 }

@@ -14,7 +14,7 @@ use Rattle.model.specs.Marks.{markOf, resultOf}
 use Rattle.dayfile.specs.Bounds.{Fit}
 use Rattle.dayfile.specs.Layout.{bookOf}
 use Rattle.dayfile.specs.Table.{refuse, firstOf, readLines, markerLines, sheetLines, bufferLines, markLines, movesRoom, line16}
-use Rattle.dayfile.specs.Memory.{bookIn, sheetIn, dayBook, Reads}
+use Rattle.dayfile.specs.Memory.{bookIn, cellsIn, sheetIn, dayBook, Reads}
 use Rattle.dayfile.specs.declared.Book as Memory
 use Rattle.dayfile.specs.declared.Reading.{Reading}
 use Rattle.dayfile.proofs.Answers.{defined-refusal, defined-answer}
@@ -28,9 +28,8 @@ use Rattle.marker.specs.declared.Marking.{Marking}
 use Rattle.marker.specs.declared.Marking.the-variants.{Refused}
 use Rattle.marker.specs.Marking as marking
 use Rattle.marker.specs.Marking.{Marks}
-use Rattle.marker.specs.Wastes.{cellsIn}
 use Rattle.marker.specs.Steps.{MarkedAs, Markable}
-use Rattle.marker.proofs.Accepted.{accepted-lawful, has-sheet-of}
+use Rattle.lawful.proofs.Accepted.{accepted-lawful, has-sheet-of}
 use Rattle.dayfile.proofs.Readings.{read-day}
 
 -- the sheet that is in memory, where there is one
@@ -96,5 +95,6 @@ module _ (f before : List ℕ) (passed : firstOf (markLines f (length before)) �
         (markOf (bookIn (r .day .book) caps) (cellsIn (r .day .book) (r .day .sheet))) before after x →
         Marks f before after x
     marked-marks after x h =
-        let m : MarkedAs (bookOf f) (marking.sheetIn f) (markOf (bookOf f) (marking.sheetIn f)) before after x = rw (book-is, sheet-is) at h in
+        let m : MarkedAs (bookOf f) (marking.sheetIn f) (markOf (bookOf f) (marking.sheetIn f)) before after x =
+        rw (book-is, sheet-is) at h in
         defined-answer (resultOf (markOf (bookOf f) (marking.sheetIn f))) passed (m .says) (refl, m .buffer)

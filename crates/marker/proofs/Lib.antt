@@ -1,14 +1,9 @@
 -- The laws that the functions' proofs cite.
-pub mod Sheets
-pub mod Used
-pub mod Wasting
 pub mod Coding
 pub mod Fair
 pub mod Memory
-pub mod Accepted
 pub mod Files
 -- for callers: what an answer's numbers tell, and demand 3
 pub mod Telling
-pub mod Taken
 pub mod Decode
 pub mod Theorems

@@ -1,13 +1,13 @@
 -- A book and a lawful sheet in memory: what the search for waste and the search for exchange paths ask of them. Assumes nothing.
 use mathlib.Core.Path.{_≡_, refl, subst}
 use mathlib.Core.List.{List}
-use Prim.Native.Nat.{ℕ, _+_, _≤_, _<_}
+use Prim.Native.Nat.{ℕ, _+_, _<_}
 use native.Mathlib.Omega.{arith}
 use Rattle.fairness.specs.Instance.{Feasible}
 use Rattle.model.specs.Book.{Book, Grid, cell, instanceOf}
 use Rattle.model.specs.Marks.{wasteful, seatBelow, wastedWindow, markOf}
 use Rattle.model.proofs.Lowest.{lowest-some}
-use Rattle.dayfile.specs.Memory.{bookIn}
+use Rattle.dayfile.specs.Memory.{bookIn, cellsIn}
 use Rattle.dayfile.specs.declared.Book as Memory
 use Rattle.dayfile.proofs.Held.{seats-in, windows-in}
 use Rattle.sheet.specs.declared.Sheet.{Sheet}
@@ -15,19 +15,16 @@ use Rattle.sheet.specs.Sheets.{credit}
 use Rattle.instance.specs.declared.Terms.{Terms}
 use Rattle.instance.specs.Terms.{instanceIn, Told, Shows, Ranged, Small}
 use Rattle.instance.proofs.Told.{small-told, shown-feasible}
-use Rattle.marker.specs.declared.waste.Waste.{Waste}
-use Rattle.marker.specs.declared.waste.Waste.the-variants.{Nowhere, At}
+use Rattle.waste.specs.declared.Waste.{Waste}
+use Rattle.waste.specs.declared.Waste.the-variants.{Nowhere, At}
 use Rattle.marker.specs.declared.Marking.{Marking}
 use Rattle.marker.specs.declared.Marking.the-variants.{Wasteful}
-use Rattle.marker.specs.Wastes.{cellsIn, Tells}
+use Rattle.waste.specs.Wastes.{Tells}
 use Rattle.marker.specs.Steps.{fairMark, MarkedAs, Markable}
-use Rattle.marker.proofs.Used.{cell-in}
+use Rattle.dayfile.proofs.Used.{cell-in}
 use Rattle.marker.proofs.Fair.{marked-as}
 
 module _ (m : Memory.Book) (caps : Grid) (sheet : Sheet) (h : Markable m caps sheet) where
-  pub in-range : (m .seats ≤ 32) × (m .windows ≤ 24)
-  in-range = (omega (arith, seats-in m caps, h .fit .seats-high), omega (arith, windows-in m caps, h .fit .windows-high))
-
   -- the numbers that tell the book
   module _ (t : Terms) (told : Told (instanceOf (bookIn m caps)) t caps) where
     pub shows : Shows t (cell (cellsIn m sheet)) sheet

@@ -26,7 +26,9 @@ a-mark Settled e = refl
 
 module _ (r : Marking) (n : Numbers) (is : n ≡ numbersOf (told r)) where
   pub refusal-told : n .mark ≡ 0 → told r ≡ turnedAway (refuse (n .refusal) (n .offset))
-  refusal-told e = no-mark r (sym (ap (λ (x : Numbers). x .mark) is) ∙ e) ∙ ap (λ (x : Numbers). turnedAway (refuse (x .refusal) (x .offset))) (sym is)
+  refusal-told e =
+      no-mark r (sym (ap (λ (x : Numbers). x .mark) is) ∙ e)
+      ∙ ap (λ (x : Numbers). turnedAway (refuse (x .refusal) (x .offset))) (sym is)
 
   pub result-told : (n .mark ≡ 0 → ⊥) → told r ≡ answer (resultIn n)
   result-told e = a-mark r (λ h. e (ap (λ (x : Numbers). x .mark) is ∙ h)) ∙ ap (λ (x : Numbers). answer (resultIn x)) (sym is)

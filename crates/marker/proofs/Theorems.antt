@@ -22,7 +22,7 @@ use Rattle.dayfile.proofs.Lines.{none-holds, none-parts, none-first-of}
 use Rattle.marker.specs.declared.Marking.{Marking}
 use Rattle.marker.specs.declared.Marking.the-variants.{Improvable}
 use Rattle.marker.specs.Marking.{sheetIn, markFile, told, results, movesIn, BufferAfter, Passing, Marks}
-use Rattle.marker.proofs.Accepted.{accepted-sheet, accepted-lawful}
+use Rattle.lawful.proofs.Accepted.{accepted-sheet, accepted-lawful}
 use Rattle.marker.proofs.Decode.{moves-in-front}
 
 -- which marks pass

@@ -1,6 +1,4 @@
 -- What the marker answers, and what stands in the output buffer afterwards.
 pub mod Marking
 -- What its parts answer.
-pub mod Firsts
-pub mod Wastes
 pub mod Steps

@@ -5,21 +5,17 @@ use mathlib.Core.Logic.{_⊎_}
 use Prim.Native.Nat.{ℕ, zero, suc, _-_}
 use lib.ListN.{length, getD, drop}
 use Rattle.fairness.specs.Exchange.{Move}
-use Rattle.model.specs.Lowest.{getOr}
 use Rattle.model.specs.Book.{Book, Grid}
 use Rattle.model.specs.Search.{Found, PathOn}
 use Rattle.model.specs.Marks.{Mark, wasteful, improvable, tied, settled, Result, markOf, resultOf, moveBytes}
-use Rattle.dayfile.specs.Layout.{bookOf, sheetOf}
+use Rattle.dayfile.specs.Layout.{bookOf}
 use Rattle.dayfile.specs.Table.{refuse, markLines}
 use Rattle.dayfile.specs.Outcome.{Outcome, turnedAway, answer, outcome, Defined}
 use Rattle.dayfile.specs.Memory.{front}
+pub use Rattle.lawful.specs.Firsts.{sheetIn}
 use Rattle.marker.specs.declared.Numbers.{Numbers}
 use Rattle.marker.specs.declared.Marking.{Marking}
 use Rattle.marker.specs.declared.Marking.the-variants.{Refused, Wasteful, Improvable, Tied, Settled}
-
--- the sheet marked: the file's kind 4 body
-abbrev pub sheetIn : List ℕ → Grid
-sheetIn f = getOr (sheetOf f) []
 
 -- the mark of a file, or its refusal, where the output buffer has `room` bytes
 unfoldable pub markFile : List ℕ → ℕ → Outcome Mark

@@ -10,12 +10,11 @@ use Rattle.model.specs.Search.{search}
 use Rattle.model.specs.Marks.{Mark, improvable, tied, settled, resultOf}
 use Rattle.dayfile.specs.Bounds.{Fit}
 use Rattle.dayfile.specs.Outcome.{answer}
-use Rattle.dayfile.specs.Memory.{bookIn}
+use Rattle.dayfile.specs.Memory.{bookIn, cellsIn}
 use Rattle.dayfile.specs.declared.Book as Memory
 use Rattle.sheet.specs.declared.Sheet.{Sheet}
 use Rattle.marker.specs.declared.Marking.{Marking}
 use Rattle.marker.specs.Marking.{told, BufferAfter}
-use Rattle.marker.specs.Wastes.{cellsIn}
 
 -- the mark of a sheet that is not wasteful: the first that holds of 2, 3, 4
 unfoldable pub fairMark : Book → Grid → Mark

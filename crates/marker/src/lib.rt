@@ -7,26 +7,24 @@ ghost use Rattle.model.specs.Book as model;
 ghost use Rattle.model.specs.Marks.{markOf};
 ghost use Rattle.sheet.specs.Sheets.{credit};
 ghost use Rattle.dayfile.specs.Table.{movesRoom};
-ghost use Rattle.dayfile.specs.Memory.{bookIn, Reads};
+ghost use Rattle.dayfile.specs.Memory.{bookIn, cellsIn, Reads};
 ghost use Rattle.instance.specs.Terms.{instanceIn, Told, Shows, Small};
 ghost use Rattle.dayfile.specs.Outcome.{answer};
 ghost use Rattle.marker.specs.Marking.{told, numbersOf, Marks};
-ghost use Rattle.marker.specs.Wastes.{cellsIn};
 ghost use Rattle.marker.specs.Steps.{fairMark, MarkedAs, Markable};
 use dayfile::Book;
 use dayfile::Check;
 use dayfile::Reading;
 use exchange::Kind;
 use instance::Terms;
-use lines::check_file;
+use lawful::check_file;
 use moves::write_moves;
+use sheet::Caps;
 use sheet::Sheet;
 use waste::Waste;
 use waste::wasted;
 
-pub mod lines;
 pub mod moves;
-pub mod waste;
 
 // What the marker says: a refusal, or one of the four marks, with numbers counted from 1.
 pub enum Marking {
@@ -85,7 +83,7 @@ impl Marking {
 }
 
 // Marks 2 to 4, of a sheet that is not wasteful.
-fn mark_full(sheet: Sheet, caps: [[u16; 24]; 32], t: Terms, moves: &mut [u8]) -> Marking
+fn mark_full(sheet: Sheet, caps: Caps, t: Terms, moves: &mut [u8]) -> Marking
     requires { ⌜ Small t caps × Feasible (instanceIn t caps) (credit sheet) ⌝ }
     requires { ⌜ movesRoom ≤ length (now moves) ⌝ }
     ensures { λ r. ⌜ ((b : model.Book) (s : model.Grid) → Told (model.instanceOf b) t caps → Shows t (model.cell s) sheet →
@@ -107,7 +105,7 @@ fn mark_full(sheet: Sheet, caps: [[u16; 24]; 32], t: Terms, moves: &mut [u8]) ->
 }
 
 // The mark of a lawful sheet in memory.
-fn mark_sheet(book: Book, caps: [[u16; 24]; 32], sheet: Sheet, moves: &mut [u8]) -> Marking
+fn mark_sheet(book: Book, caps: Caps, sheet: Sheet, moves: &mut [u8]) -> Marking
     requires { ⌜ Markable book caps sheet ⌝ }
     requires { ⌜ movesRoom ≤ length (now moves) ⌝ }
     ensures { λ r. ⌜ MarkedAs (bookIn book caps) (cellsIn book sheet) (markOf (bookIn book caps) (cellsIn book sheet))
@@ -127,8 +125,7 @@ pub fn mark_reading(file: &[u8], reading: Reading, moves: &mut [u8]) -> Marking
     requires { ⌜ Reads (now file) reading ⌝ }
     ensures { λ r. ⌜ Marks (now (file .entry)) (now (moves .entry)) (now (moves .exit)) r ⌝ }
 {
-    let first = reading.check;
-    if let Check::Refused { number, at } = check_file(file, first, moves.len()) {
+    if let Check::Refused { number, at } = check_file(file, reading, moves.len()) {
         return Marking::Refused { number, at };
     }
     let day = reading.day;

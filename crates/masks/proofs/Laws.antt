@@ -5,7 +5,7 @@ use Prim.Native.Nat.{ℕ, zero, suc, _+_, _-_, _/_, _^_, _<_, _≤_}
 use native.Mathlib.Nat.{pow-suc}
 use native.Mathlib.Decide.{ℕ-discrete, decLt}
 use native.Mathlib.Omega.{arith}
-use Rattle.masks.specs.Sets.{bit, In, Within, countBelow, sizeOf, Inserted, Removed, Lowest, Full}
+use Rattle.masks.specs.Sets.{bit, In, Within, countBelow, sizeOf, Removed, Full}
 
 -- ---- members
 
@@ -49,18 +49,6 @@ same-bits (suc n) a b ha hb f =
 -- two sets with the same members are equal
 pub same-set : (a b : ℕ) → a < 2 ^ 32 → b < 2 ^ 32 → ((k : ℕ) → k < 32 → bit a k ≡ bit b k) → a ≡ b
 same-set a b = same-bits 32 a b
-
--- a set without members is empty
-pub no-members : (m : ℕ) → m < 2 ^ 32 → ((k : ℕ) → k < 32 → bit m k ≡ 0) → m ≡ 0
-no-members m h f = same-set m 0 h (omega arith) (λ k l. omega (arith, f k l, bit-zero k))
-
--- a set has one lowest member
-pub lowest-one : (m r s : ℕ) → Lowest m r → Lowest m s → r ≡ s
-lowest-one m r s p q =
-    elim (decLt r s) [
-      | yes l ↦ absurd (omega (arith, p .here, q .least r l))
-      | no l ↦ elim (decLt s r) [ yes k ↦ absurd (omega (arith, q .here, p .least s k)) | no k ↦ omega arith ]
-    ]
 
 -- ---- sizes
 
@@ -109,10 +97,6 @@ within-size a b f = count-mono 32 a b (λ k l. f k)
 -- and smaller, where a seat of the other is not in it
 pub within-less : (a b j : ℕ) → j < 32 → Within a b → bit a j < bit b j → sizeOf a < sizeOf b
 within-less a b j l f h = count-less 32 a b j l (λ k i. f k) h
-
--- a seat that was not in the set comes in: one more. The measure of a loop that puts in one new seat a turn is 32 − size.
-pub inserted-grows : (m i r : ℕ) → i < 32 → bit m i ≡ 0 → Inserted m i r → sizeOf r ≡ sizeOf m + 1
-inserted-grows m i r l e s = count-more 32 m r i l (s .others) (omega (arith, s .here))
 
 -- a seat that was in the set goes: one less. The measure of a loop that takes a set's seats in turn is its size.
 pub removed-shrinks : (m i r : ℕ) → i < 32 → In i m → Removed m i r → sizeOf m ≡ sizeOf r + 1

@@ -1,6 +1,7 @@
 // Small books and sheets in the form that the library takes.
 use crate::Small;
 use dayfile::Book;
+use sheet::Caps;
 
 // The book in memory, but for its caps.
 pub fn book_of(s: Small) -> Book {
@@ -23,7 +24,7 @@ pub fn book_of(s: Small) -> Book {
 }
 
 // Cells as the library's grid.
-pub fn grid_of(cells: [u16; 12]) -> [[u16; 24]; 32] {
+pub fn grid_of(cells: [u16; 12]) -> Caps {
     let mut grid = [[0u16; 24]; 32];
     for k in 0..12usize {
         let i = k / 3;
@@ -34,7 +35,7 @@ pub fn grid_of(cells: [u16; 12]) -> [[u16; 24]; 32] {
 }
 
 // And back.
-pub fn cells_of(grid: [[u16; 24]; 32]) -> [u16; 12] {
+pub fn cells_of(grid: Caps) -> [u16; 12] {
     let mut cells = [0u16; 12];
     for k in 0..12usize {
         let i = k / 3;

@@ -1,21 +1,21 @@
 -- From what the listing and the planner say to what is printed: it fits the buffer, and the listing is never refused. Assumes nothing.
-use mathlib.Core.Path.{_≡_, refl, sym, ap}
+use mathlib.Core.Path.{_≡_, refl, ap}
 use mathlib.Core.List.{List}
-use mathlib.Core.Option.{Option, none, some}
 use Prim.Native.Nat.{ℕ, _≤_}
 use native.Mathlib.Omega.{arith}
 use lib.ListN.{length, drop, length-append}
 use borrow.Author.Tests.{le-ltb}
 use Rattle.dayfile.specs.declared.Written.{Written}
 use Rattle.dayfile.specs.declared.Written.the-variants.{Refused, Whole}
-use Rattle.dayfile.specs.Layout.{bookOf}
-use Rattle.dayfile.specs.Table.{Refusal, firstOf, line16, bufferLines, planLines, plannedLength}
+use Rattle.dayfile.specs.Table.{refuse, line16, bufferLines, planLines}
+use Rattle.dayfile.specs.Outcome.{answer}
 use Rattle.dayfile.specs.Memory.{front}
-use Rattle.dayfile.proofs.Answers.{answered}
+use Rattle.dayfile.proofs.Lines.{none-holds}
+use Rattle.dayfile.proofs.Answers.{answer-none, refusal-first}
 use Rattle.listing.specs.Listing.{refusalLine, listingMax, Printed}
-use Rattle.report.specs.Report.{Listed, ListedUnless, Lists}
-use Rattle.planner.specs.Planning.{planFile, Plans}
-use Rattle.planner.proofs.Steps.{room-enough}
+use Rattle.listing.specs.Calls.{Lists}
+use Rattle.planner.specs.Planning.{Plans}
+use Rattle.planner.proofs.Theorems as planner
 use Rattle.output.specs.Output.{PrintsPlan}
 
 -- a text at a buffer's front is no longer than the buffer afterwards
@@ -23,39 +23,37 @@ front-fits : (text before after : List ℕ) → after ≡ front text before → 
 unfolding front
 front-fits text before after e = omega (arith, ap length e, length-append text (drop (length text) before))
 
+pub printed-fits : (before text after : List ℕ) (n : ℕ) → Printed before text after n → n ≤ length after
+unfolding front
+printed-fits before text after n printed = omega (arith, printed .size, front-fits text before after (printed .buffer))
+
 -- ---- mark
-
-listed-fits : (file before after : List ℕ) (n : ℕ) → Lists file before after (Whole n) → n ≤ length after
-listed-fits file before after n lists = go (firstOf (bufferLines (length before) listingMax)) lists
-  where
-    go : (o : Option Refusal) → ListedUnless o file before after (Whole n) → n ≤ length after
-    go (some q) h = absurd (let said = h .0 in let z : _≡_ {A = ℕ} 0 1 = cc in omega arith)
-    go none h =
-        let fits = front-fits _ before after (h .buffer) in
-        omega (arith, fits, answered none n _ (h .says) .1)
-
-never-refused : (file before after : List ℕ) (n p : ℕ) → listingMax ≤ length before → Lists file before after (Refused n p) → ⊥
-unfolding bufferLines line16
-never-refused file before after n p long lists =
-    let h : Listed file before after (Refused n p) = rw (le-ltb (length before) listingMax long) at lists in
-    let said = h .says in
-    let z : _≡_ {A = ℕ} 0 1 = cc in omega arith
 
 pub lists-whole : (file before after : List ℕ) (r : Written) (n : ℕ) → Lists file before after r → r ≡ Whole n →
     Lists file before after (Whole n) × (n ≤ length after)
-lists-whole file before after r n lists e = (rw e at lists, listed-fits file before after n (rw e at lists))
+lists-whole file before after r n lists e =
+    let whole : Lists file before after (Whole n) = rw e at lists in
+    (whole, printed-fits _ _ _ _ (answer-none whole n refl .1 .printed))
 
 pub lists-refused : (file before after : List ℕ) (r : Written) (n p : ℕ) → Lists file before after r → r ≡ Refused n p →
-    length before ≡ 4096 → ⊥
-lists-refused file before after r n p lists e long = never-refused file before after n p (omega (arith, long)) (rw e at lists)
+    listingMax ≤ length before → ⊥
+unfolding bufferLines line16
+lists-refused file before after r n p lists e long =
+    let refused : Lists file before after (Refused n p) = rw e at lists in
+    let first = refusal-first refused (refuse n p) refl in
+    let fits = le-ltb (length before) listingMax long in
+    let z : _≡_ {A = ℕ} 0 1 = cc (rw fits at first) in omega arith
 
 -- ---- plan
 
-pub planned-fits : (file before after : List ℕ) (n : ℕ) → Plans file before after (Whole n) → n ≤ length before
-unfolding planFile
+pub planned-fits : (file before after : List ℕ) (n : ℕ) → Plans file before after (Whole n) → n ≤ length after
 planned-fits file before after n plans =
-    let h = answered (firstOf (planLines file (length before))) (plannedLength (bookOf file)) n (sym (plans .says)) in
-    omega (arith, h .1, room-enough file (length before) (h .0))
+    let held = none-holds (planLines file (length before)) (answer-none plans n refl .0) in
+    let fits = front-fits _ before after (planner.planned file before after (Whole n) plans held .bytes) in
+    omega (arith, fits, same n _ (planner.told-length file before after (Whole n) plans held))
+  where
+    same : (k m : ℕ) → answer k ≡ answer m → k ≡ m
+    same k m e = cc
 
 pub prints-planned : (file before after : List ℕ) (r : Written) (n : ℕ) → Plans file before after r → r ≡ Whole n →
     PrintsPlan file before after n
@@ -78,7 +76,3 @@ prints-refusal file before planned after r number at n plans e printed =
       plans = rw e at plans;
       prints = (printed .size, printed .buffer);
     }
-
-pub printed-fits : (before text after : List ℕ) (n : ℕ) → Printed before text after n → n ≤ length after
-unfolding front
-printed-fits before text after n printed = omega (arith, printed .size, front-fits text before after (printed .buffer))

@@ -2,7 +2,7 @@
 ghost use Prim.Native.Nat.{_≤_};
 ghost use lib.ListN.{length};
 ghost use Rattle.dayfile.specs.declared.Written.the-variants.{Whole};
-ghost use Rattle.report.specs.Report.{Lists};
+ghost use Rattle.listing.specs.Calls.{Lists};
 ghost use Rattle.output.specs.Output.{PrintsPlan};
 use dayfile::Written;
 
@@ -14,7 +14,7 @@ pub fn of_mark(file: &[u8], out: &mut [u8; ROOM]) -> usize
     ensures { λ r. ⌜ Lists (now (file .entry)) (now (out .entry)) (now (out .exit)) (Whole r) ⌝ }
     ensures { λ r. ⌜ r ≤ length (now (out .exit)) ⌝ }
 {
-    match report::listing(file, out) {
+    match listing::listing(file, out) {
         Written::Whole { length } => length,
         Written::Refused { number: _, at: _ } => 0,
     }

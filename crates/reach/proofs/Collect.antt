@@ -1,5 +1,5 @@
 -- Sets and rows that are collected one number after the other. Assumes nothing.
-use mathlib.Core.Path.{_≡_, refl, sym, _∙_}
+use mathlib.Core.Path.{_≡_, sym, _∙_}
 use mathlib.Core.Logic.{_↔_}
 use mathlib.Core.List.{List}
 use Prim.Native.Nat.{ℕ, _+_, _≤_, _<_}
@@ -39,23 +39,6 @@ module _ (P : ℕ → Type 0) (n m : ℕ) (c : Collects n P m) where
   )
 
 -- ---- rows
-
-pub rows-first : (P : ℕ → ℕ → Type 0) (n : ℕ) → Rows 0 P (replicate n 0)
-rows-first P n i k = (λ p. absurd (omega (arith, rw (zeros-at n i) at p, bit-zero k)), λ p. absurd (omega (arith, p .0)))
-
--- one row more
-pub rows-next : (P : ℕ → ℕ → Type 0) (n v : ℕ) (sets : List ℕ) → n < length sets → Rows n P sets → ((k : ℕ) → In k v ↔ P n k)
-    → Rows (n + 1) P (set sets n v)
-rows-next P n v sets h rows row i k =
-    elim (ℕ-discrete i n) [
-      | yes e ↦ rw e (rw (getD-set-same sets n v 0 h) (λ p. (omega arith, row k .0 p), λ p. row k .1 (p .1)))
-      | no d ↦
-          let r = rows i k in
-          rw (getD-set-other sets n i v 0 d) (
-            λ p. let q = r .0 p in (omega (arith, q .0), q .1),
-            λ p. r .1 (omega (arith, p .0), p .1),
-          )
-    ]
 
 -- rows that a loop has filled in
 pub rows-end : {P : ℕ → ℕ → Type 0} {n m i : ℕ} {sets : List ℕ}

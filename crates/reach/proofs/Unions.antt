@@ -37,7 +37,8 @@ module _ (set : ℕ) (sets : List ℕ) where
       sound = λ l p. elim (ℕ-discrete (bit all l) 1) [
         | yes e ↦ b .sound l e
         | no d ↦
-            record { via = i; here = record { member = member i low; leads = omega (arith, more l, bit-lt all l, bit-lt (setAt sets i) l) } }
+            let leads : In l (setAt sets i) = omega (arith, more l, bit-lt all l, bit-lt (setAt sets i) l) in
+            record { via = i; here = record { member = member i low; leads = leads } }
       ];
       whole = λ l via z p. elim (ℕ-discrete via i) [
         | yes e ↦ omega (arith, rw e at (p .leads), more l, bit-lt all′ l)

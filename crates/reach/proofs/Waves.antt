@@ -1,18 +1,18 @@
 -- The search outward from a seat: each move keeps what holds of it, and at its end all was seen. Assumes nothing.
-use mathlib.Core.Path.{_≡_, refl}
+use mathlib.Core.Path.{_≡_}
 use mathlib.Core.Logic.{inl, inr, _↔_}
-use Prim.Native.Nat.{ℕ, zero, suc, _+_, _-_, _^_, _<_, _≤_, min, max}
+use Prim.Native.Nat.{ℕ, zero, suc, _+_, _-_, _^_, _<_, min, max}
 use native.Mathlib.Numerals.{add-one}
 use native.Mathlib.Decide.{ℕ-discrete, decLt}
 use native.Mathlib.Omega.{arith}
 use lib.ListN.{length}
-use Rattle.masks.specs.Sets.{bit, In, Within, sizeOf, Inserted, Full, Lowest}
+use Rattle.masks.specs.Sets.{bit, In, sizeOf, Inserted, Full, Lowest}
 use Rattle.masks.proofs.Laws.{bit-lt, bit-zero, size-le, within-size, within-less}
 use Rattle.masks.proofs.Machine.{lowest-is}
 use lib.Count.{trailingZeros}
 use Rattle.reach.specs.declared.Graph.{Graph}
 use Rattle.reach.specs.declared.Wave.{Wave}
-use Rattle.reach.specs.Graphs.{setAt, Leads, Through, UnionOver, Takes, Reach, Reached, Layer, Spread, Grown}
+use Rattle.reach.specs.Graphs.{setAt, UnionOver, Takes, Reach, Reached, Spread, Grown}
 use Rattle.reach.proofs.Members.{at-small}
 
 module _ (graph : Graph) (g : ℕ) where

@@ -1,20 +1,17 @@
--- The laws of a grid's cells: when all are 0, in its used part, and after a write.
+-- The laws of a grid's cells: when all are 0, and after a write.
 use mathlib.Core.Path.{_≡_, refl, ap, sym, _∙_, fun-ext}
 use mathlib.Core.Logic.{_≢_}
 use mathlib.Core.List.{List, [], _∷_, map}
-use Prim.Native.Nat.{ℕ, zero, suc, _≤_, _<_}
+use Prim.Native.Nat.{ℕ, zero, suc, _<_}
 use native.Mathlib.Decide.{ℕ-discrete}
 use native.Mathlib.Omega.{arith}
-use lib.ListN.{length, getD, set, take, replicate, length-set, length-take, List·getD-map}
-use lib.Seq.{getD-set-same, getD-set-other, getD-take, ext-getD, take-nil}
-use Rattle.lists.proofs.Alls.{taken-at, taken-length}
+use lib.ListN.{length, getD, set, replicate, length-set, List·getD-map}
+use lib.Seq.{getD-set-same, getD-set-other}
 use Rattle.lists.proofs.Arrays.{zeros-at}
-use Rattle.fairness.specs.Sums.{sum}
-use Rattle.fairness.proofs.Sums.{sum-eq}
 use Rattle.model.specs.Book.{Grid, cell, Shaped}
 use Rattle.sheet.specs.declared.Row.{Row}
 use Rattle.sheet.specs.declared.Sheet.{Sheet}
-use Rattle.sheet.specs.Sheets.{noRow, credit, gridOf, used, Written}
+use Rattle.sheet.specs.Sheets.{noRow, credit, gridOf, Written}
 
 -- ---- a sheet and its grid
 
@@ -35,47 +32,6 @@ pub all-zero : (n m i j : ℕ) → credit (record { rows = replicate n (record {
 all-zero zero m i j = refl
 all-zero (suc n) m zero j = zeros-at m j
 all-zero (suc n) m (suc i) j = all-zero n m i j
-
--- ---- grids of one shape
-
--- two grids of one shape with the same cells are equal
-pub same-grid : (n m : ℕ) (g h : Grid) → Shaped n m g → Shaped n m h
-    → ((i j : ℕ) → i < n → j < m → cell g i j ≡ cell h i j) → g ≡ h
-same-grid n m g h p q f = ext-getD [] g h (omega (arith, p .rows, q .rows)) row
-  where
-    row : (i : ℕ) → i < length g → getD g i [] ≡ getD h i []
-    row i l =
-        let a : i < n = omega (arith, p .rows) in
-        let e = p .row i a in
-        ext-getD 0 (getD g i []) (getD h i []) (e ∙ sym (q .row i a)) (λ j k. f i j a (omega arith))
-
--- ---- the used part
-
-row-used : (n m : ℕ) (g : Grid) (i : ℕ) → i < n → getD (used n m g) i [] ≡ take m (getD g i [])
-unfolding used
-row-used n m g i l =
-    let e : _≡_ {A = List ℕ} [] (take m []) = sym (take-nil m) in
-    ap (getD (map (take m) (take n g)) i) e ∙ taken-at (take m) g n i [] l
-
-pub used-cell : (n m : ℕ) (g : Grid) (i j : ℕ) → i < n → j < m → cell (used n m g) i j ≡ cell g i j
-used-cell n m g i j l k = ap (λ (r : List ℕ). getD r j 0) (row-used n m g i l) ∙ getD-take m (getD g i []) j 0 k
-
-pub used-credit : (n m : ℕ) (s : Sheet) (i j : ℕ) → i < n → j < m → cell (used n m (gridOf s)) i j ≡ credit s i j
-used-credit n m s i j l k = used-cell n m (gridOf s) i j l k ∙ sym (credit-cell s i j)
-
--- a seat's total, and a window's cells together
-pub used-total : (n m : ℕ) (g : Grid) (i : ℕ) → i < n → sum m (cell (used n m g) i) ≡ sum m (cell g i)
-used-total n m g i l = sum-eq m _ _ (λ j k. used-cell n m g i j l k)
-
-pub used-placed : (n m : ℕ) (g : Grid) (j : ℕ) → j < m → sum n (λ i. cell (used n m g) i j) ≡ sum n (λ i. cell g i j)
-used-placed n m g j l = sum-eq n _ _ (λ i k. used-cell n m g i j k l)
-
-pub used-shaped : (N M n m : ℕ) (g : Grid) → Shaped N M g → n ≤ N → m ≤ M → Shaped n m (used n m g)
-unfolding used
-used-shaped N M n m g p a b = record {
-  rows = taken-length (take m) g n (omega (arith, p .rows));
-  row = λ i l. ap length (row-used n m g i l) ∙ length-take m (getD g i []) ∙ omega (arith, p .row i (omega arith));
-}
 
 -- ---- a write
 

@@ -4,7 +4,7 @@ use mathlib.Core.Path.{_≡_}
 use mathlib.Core.Logic.{_≢_}
 use mathlib.Core.List.{[], map}
 use Prim.Native.Nat.{ℕ, _<_}
-use lib.ListN.{getD, take}
+use lib.ListN.{getD}
 use Rattle.fairness.specs.Exchange as exchange
 use Rattle.model.specs.Book.{Grid}
 use Rattle.sheet.specs.declared.Row.{Row}
@@ -22,10 +22,6 @@ credit s seat window = getD (getD (s .rows) seat noRow .cells) window 0
 -- the sheet's 32 rows of 24 cells as lists
 unfoldable pub gridOf : Sheet → Grid
 gridOf s = map (λ (r : Row). r .cells) (s .rows)
-
--- the first n rows of a grid, and the first m numbers of each: the sheet of the crate `model` is `used seats windows (gridOf s)`
-unfoldable pub used : ℕ → ℕ → Grid → Grid
-used n m g = map (take m) (take n g)
 
 -- the move of the crate `fairness` that a move in memory is
 abbrev pub moveOf : Move → exchange.Move

@@ -1,6 +1,6 @@
 // The data in memory: a sheet of credits as arrays, its sums and its moves.
 ghost use mathlib.Core.Path.{_≡_};
-ghost use Prim.Native.Nat.{ℕ, _≤_, _<_};
+ghost use Prim.Native.Nat.{ℕ, _+_, _≤_, _<_};
 ghost use lib.ListN.{getD};
 ghost use Rattle.fairness.specs.Sums.{sum};
 ghost use Rattle.fairness.specs.Exchange.{play};
@@ -41,6 +41,18 @@ pub fn row_total(row: [u16; 24], windows: usize) -> u32
     total
 }
 
+// Sums with the first cells of a row added to them.
+fn add_row(mut sums: [u32; 24], row: [u16; 24], windows: usize) -> [u32; 24]
+    requires { ⌜ windows ≤ 24 ⌝ }
+    requires { ⌜ ((j : ℕ) → j < windows → getD sums j 0 ≤ 4294901760) ⌝ }
+    ensures { λ r. ⌜ ((j : ℕ) → j < windows → getD r j 0 ≡ getD sums j 0 + getD row j 0) ⌝ }
+{
+    for w in 0..windows {
+        sums[w] += row[w] as u32;
+    }
+    sums
+}
+
 impl Sheet {
     // The sheet with no credit anywhere.
     pub fn zero() -> Sheet
@@ -69,17 +81,19 @@ impl Sheet {
         row_total(cells, windows)
     }
 
-    // A window's cells together.
-    pub fn placed(self, window: usize, seats: usize) -> u32
-        requires { ⌜ (window < 24) × (seats ≤ 32) ⌝ }
-        ensures { λ r. ⌜ r ≡ sum seats (λ i. credit self i window) ⌝ }
+    // Each window's cells together.
+    pub fn placed(self, seats: usize, windows: usize) -> [u32; 24]
+        requires { ⌜ (seats ≤ 32) × (windows ≤ 24) ⌝ }
+        ensures { λ r. ⌜ ((j : ℕ) → j < windows → getD r j 0 ≡ sum seats (λ i. credit self i j)) ⌝ }
     {
-        let mut total: u32 = 0;
+        let mut sums = [0u32; 24];
         for i in 0..seats {
             let row = self.rows[i];
-            total += row.cells[window] as u32;
+            let cells = row.cells;
+            let next = add_row(sums, cells, windows);
+            sums = next;
         }
-        total
+        sums
     }
 
     // The sheet after a move. The giver and the taker may be one seat, and then nothing changes.

@@ -1,10 +1,14 @@
 // Damaged files and books through all calls: their refusals agree, and none changes a byte.
 use dayfile::Book;
 use dayfile::Check;
+use dayfile::Day;
 use dayfile::Written;
+use lawful::MOVES_ROOM;
+use listing::LISTING_MAX;
 use marker::Marking;
 use say::all_from;
 use say::front;
+use sheet::Caps;
 
 // What a call made of its input: a refusal's number, 0 where there was none, and whether that was right.
 pub struct Seen {
@@ -60,7 +64,7 @@ pub fn see_mark(file: &[u8], first: Check, moves: &mut [u8]) -> Seen {
 
 // Whether a file gets mark 4.
 pub fn settled(file: &[u8]) -> bool {
-    let mut moves = [255u8; 93];
+    let mut moves = [255u8; MOVES_ROOM];
     match marker::mark(file, &mut moves) {
         Marking::Refused { number: _, at: _ } => false,
         Marking::Wasteful { window: _, seat: _ } => false,
@@ -88,10 +92,15 @@ fn begins(text: &[u8], letter: u8) -> bool {
     0 < text.len() && text[0] == letter
 }
 
+// More bytes than any listing has, and a byte less than the listing asks for.
+const LISTING_ROOM: usize = LISTING_MAX + 7;
+
+const LISTING_SHORT: usize = LISTING_MAX - 1;
+
 // Whether the listing begins as it must, with `refused` or `seats`.
 pub fn lists(file: &[u8], refused: bool) -> bool {
-    let mut out = [255u8; 3460];
-    let Written::Whole { length } = report::listing(file, &mut out) else {
+    let mut out = [255u8; LISTING_ROOM];
+    let Written::Whole { length } = listing::listing(file, &mut out) else {
         return false;
     };
     let letter = if refused { b'r' } else { b's' };
@@ -100,11 +109,11 @@ pub fn lists(file: &[u8], refused: bool) -> bool {
 
 // Whether the listing refuses a buffer that is a byte short.
 pub fn lists_short(file: &[u8]) -> bool {
-    let mut out = [255u8; 3452];
-    let Written::Refused { number, at } = report::listing(file, &mut out) else {
+    let mut out = [255u8; LISTING_SHORT];
+    let Written::Refused { number, at } = listing::listing(file, &mut out) else {
         return false;
     };
-    number == 16 && at == 3453 && all_from(&out, 0, 255)
+    number == 16 && at == LISTING_MAX && all_from(&out, 0, 255)
 }
 
 // Whether what was read of a file is written as the same bytes; true where nothing can be read.
@@ -112,20 +121,17 @@ pub fn written_again(file: &[u8], first: Check) -> bool {
     if !sound(first) {
         return true;
     }
-    let there = reader::has_sheet(file);
-    let caps = reader::read_caps(file);
-    let sheet = reader::read_sheet(file);
+    let read = reader::read(file);
     let mut out = [255u8; 128];
-    let w = writer::write(&mut out, reader::read_book(file), caps, there, sheet);
-    let Written::Whole { length } = w else {
+    let Written::Whole { length } = writer::write(&mut out, read.day) else {
         return false;
     };
     check::same(front(&out, length), file) && all_from(&out, length, 255)
 }
 
 // The writer's answer. What it writes, the reader takes.
-pub fn see_write(book: Book, caps: [[u16; 24]; 32], out: &mut [u8]) -> Seen {
-    match writer::write(out, book, caps, true, caps) {
+pub fn see_write(book: Book, caps: Caps, out: &mut [u8]) -> Seen {
+    match writer::write(out, Day::new(book, caps, true, caps)) {
         Written::Refused { number, at: _ } => Seen {
             number,
             right: all_from(out, 0, 255),

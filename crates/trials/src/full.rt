@@ -4,12 +4,18 @@ use crate::tally::more;
 use crate::tally::more_if;
 use crate::tally::say_count;
 use dayfile::Book;
+use dayfile::Day;
+use dayfile::LONGEST_FILE;
 use dayfile::Written;
 use draws::full::draw_book;
 use draws::full::draw_caps;
 use draws::full::draw_most;
 use say::all_from;
 use say::front;
+use sheet::Caps;
+
+// More bytes than any file has.
+const PLAN_ROOM: usize = LONGEST_FILE + 10;
 
 pub struct Planned {
     pub books: u32,
@@ -35,19 +41,20 @@ impl Planned {
 
 // Whether a planned file gets mark 4, and planned again stays as it is: the sheet that is given does not count.
 fn rightly_planned(file: &[u8]) -> bool {
-    let mut again = [255u8; 3210];
+    let mut again = [255u8; LONGEST_FILE];
     let Written::Whole { length } = planner::plan(file, &mut again) else {
         return false;
     };
     settled(file) && check::same(front(&again, length), file)
 }
 
-fn judge_book(book: Book, caps: [[u16; 24]; 32]) -> bool {
-    let mut file = [0u8; 3210];
-    let Written::Whole { length } = writer::write(&mut file, book, caps, false, caps) else {
+fn judge_book(book: Book, caps: Caps) -> bool {
+    let mut file = [0u8; LONGEST_FILE];
+    let day = Day::new(book, caps, false, caps);
+    let Written::Whole { length } = writer::write(&mut file, day) else {
         return false;
     };
-    let mut out = [255u8; 3220];
+    let mut out = [255u8; PLAN_ROOM];
     let Written::Whole { length: end } = planner::plan(front(&file, length), &mut out) else {
         return false;
     };

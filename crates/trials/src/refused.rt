@@ -11,14 +11,17 @@ use crate::tally::more_if;
 use crate::tally::say_count;
 use dayfile::Book;
 use dayfile::Check;
+use dayfile::LONGEST_FILE;
 use draws::below;
 use draws::damage::damage_book;
 use draws::damage::damage_caps;
 use draws::damage::draw_file;
 use draws::small::draw_small;
+use lawful::MOVES_ROOM;
 use say::front;
 use say::say_number;
 use say::say_text;
+use sheet::Caps;
 
 // Counts by the number of the refusal, at 0 those that were taken.
 pub struct Refusals {
@@ -102,13 +105,16 @@ fn say_row(number: usize, a: u32, b: u32, c: u32) {
     say_text(b"\n");
 }
 
-// The marker's answer with a buffer of 92 or 93 bytes.
+// A byte less than the marker asks for.
+const MOVES_SHORT: usize = MOVES_ROOM - 1;
+
+// The marker's answer with a buffer that is a byte short, or long enough.
 fn mark_with(file: &[u8], first: Check, short: bool) -> Seen {
     if short {
-        let mut few = [255u8; 92];
+        let mut few = [255u8; MOVES_SHORT];
         return see_mark(file, first, &mut few);
     }
-    let mut moves = [255u8; 93];
+    let mut moves = [255u8; MOVES_ROOM];
     see_mark(file, first, &mut moves)
 }
 
@@ -122,13 +128,13 @@ fn plan_with(file: &[u8], first: Check, short: bool) -> Seen {
     see_plan(file, first, &mut out)
 }
 
-// The writer's answer with a buffer of 60 or 3,210 bytes.
-fn write_with(book: Book, caps: [[u16; 24]; 32], short: bool) -> Seen {
+// The writer's answer with a buffer of 60 bytes, or one for any file.
+fn write_with(book: Book, caps: Caps, short: bool) -> Seen {
     if short {
         let mut few = [255u8; 60];
         return see_write(book, caps, &mut few);
     }
-    let mut out = [255u8; 3210];
+    let mut out = [255u8; LONGEST_FILE];
     see_write(book, caps, &mut out)
 }
 

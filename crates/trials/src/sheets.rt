@@ -2,7 +2,9 @@
 use crate::calls::kept;
 use crate::tally::Tally;
 use dayfile::Book;
+use dayfile::Day;
 use dayfile::Written;
+use lawful::MOVES_ROOM;
 use marker::Marking;
 use oracle::Small;
 use oracle::memory::book_of;
@@ -20,6 +22,7 @@ use oracle::rules::totals;
 use oracle::rules::wasted;
 use say::all_from;
 use say::front;
+use sheet::Caps;
 
 // No small book has more: 12 cells, and no cap above 3.
 const SHEETS: u32 = 16777216;
@@ -101,9 +104,9 @@ fn rightly_marked(s: Small, best: Best, cells: [u16; 12], m: Marking, moves: &[u
 }
 
 // The mark of a sheet of a book in memory. What the writer refused counts as refusal 0.
-fn mark_cells(book: Book, caps: [[u16; 24]; 32], cells: [u16; 12], moves: &mut [u8]) -> Marking {
+fn mark_cells(book: Book, caps: Caps, cells: [u16; 12], moves: &mut [u8]) -> Marking {
     let mut file = [0u8; 96];
-    match writer::write(&mut file, book, caps, true, grid_of(cells)) {
+    match writer::write(&mut file, Day::new(book, caps, true, grid_of(cells))) {
         Written::Whole { length } => marker::mark(front(&file, length), moves),
         Written::Refused { number: _, at } => Marking::Refused { number: 0, at },
     }
@@ -115,10 +118,10 @@ fn judge_sheet(
     s: Small,
     best: Best,
     book: Book,
-    caps: [[u16; 24]; 32],
+    caps: Caps,
     cells: [u16; 12],
 ) -> Tally {
-    let mut moves = [255u8; 93];
+    let mut moves = [255u8; MOVES_ROOM];
     let m = mark_cells(book, caps, cells, &mut moves);
     let right = rightly_marked(s, best, cells, m, &moves);
     tally.marked(m, right)
@@ -144,8 +147,10 @@ fn judge_sheets(tally: Tally, s: Small, best: Best) -> Tally {
 
 // Whether the sheet of a planned file is the best one and gets mark 4.
 fn rightly_planned(s: Small, best: Best, file: &[u8]) -> bool {
-    let cells = cells_of(reader::read_sheet(file));
-    let mut moves = [255u8; 93];
+    let read = reader::read(file);
+    let day = read.day;
+    let cells = cells_of(day.sheet.to_grid());
+    let mut moves = [255u8; MOVES_ROOM];
     let m = marker::mark(file, &mut moves);
     rightly_settled(s, best, cells) && rightly_marked(s, best, cells, m, &moves)
 }
@@ -155,7 +160,8 @@ fn judge_plan(s: Small, best: Best) -> bool {
     let small = s.caps;
     let caps = grid_of(small);
     let mut file = [0u8; 96];
-    let Written::Whole { length } = writer::write(&mut file, book_of(s), caps, false, caps) else {
+    let day = Day::new(book_of(s), caps, false, caps);
+    let Written::Whole { length } = writer::write(&mut file, day) else {
         return false;
     };
     let mut out = [255u8; 96];

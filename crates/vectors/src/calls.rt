@@ -2,6 +2,7 @@
 use crate::numbers;
 use dayfile::Book;
 use dayfile::Check;
+use dayfile::Day;
 use dayfile::Written;
 use marker::Marking;
 use say::front;
@@ -22,25 +23,17 @@ fn say_buffer(out: &[u8]) {
     say_hex(out);
 }
 
-// The book of an accepted file, written again.
-fn write_again(file: &[u8], out: &mut [u8]) -> Written {
-    let book = reader::read_book(file);
-    let caps = reader::read_caps(file);
-    let there = reader::has_sheet(file);
-    let sheet = reader::read_sheet(file);
-    writer::write(out, book, caps, there, sheet)
-}
-
 // A file is read and, where it is accepted, written again.
 pub fn read(numbers: &[u8], out: &mut [u8]) {
-    let file = file_in(numbers);
-    if let Check::Refused { number, at } = reader::read_check(file) {
+    let reading = reader::read(file_in(numbers));
+    let check = reading.check;
+    if let Check::Refused { number, at } = check {
         say_refusal(number, at);
         say_text(b"\n");
         return;
     }
     say_text(b"taken, written again ");
-    say_written(write_again(file, out));
+    say_written(writer::write(out, reading.day));
     say_buffer(out);
 }
 
@@ -59,7 +52,10 @@ fn write_book(numbers: &[u8], out: &mut [u8]) -> Written {
         classes,
         supplies,
     };
-    writer::write(out, book, caps, numbers::at(numbers, 1) == 1, sheet)
+    writer::write(
+        out,
+        Day::new(book, caps, numbers::at(numbers, 1) == 1, sheet),
+    )
 }
 
 pub fn write(numbers: &[u8], out: &mut [u8]) {
@@ -104,7 +100,7 @@ pub fn plan(numbers: &[u8], out: &mut [u8]) {
 
 // The listing of a file, whole.
 pub fn list(numbers: &[u8], out: &mut [u8]) {
-    let w = report::listing(file_in(numbers), out);
+    let w = listing::listing(file_in(numbers), out);
     say_written(w);
     say_text(b"\n");
     if let Written::Whole { length } = w {

@@ -9,6 +9,9 @@ use say::say_text;
 pub mod calls;
 pub mod numbers;
 
+// Room for the numbers of a line, and the longest output buffer: more than the longest file and the longest listing.
+const ROOM: usize = 4096;
+
 // A call's answer, by the word's first letter.
 fn answer(word: u8, numbers: &[u8], out: &mut [u8]) {
     match word {
@@ -27,11 +30,11 @@ fn run(line: &[u8]) {
     if line.len() == 0 {
         return;
     }
-    let mut numbers = [0u8; 4096];
+    let mut numbers = [0u8; ROOM];
     numbers::read(line, &mut numbers);
     let room = numbers::at(&numbers, 0) as usize;
-    let mut out = [255u8; 4096];
-    if room <= 4096 {
+    let mut out = [255u8; ROOM];
+    if room <= ROOM {
         answer(line[0], &numbers, &mut out[..room]);
     }
 }

@@ -1,5 +1,6 @@
 // The numbers of a line. They are kept as fields of a day file are: two bytes each, low byte first.
 ghost use Prim.Native.Nat.{_<_};
+use sheet::Caps;
 
 fn field(low: u8, high: u8) -> u16 {
     low as u16 + 256 * high as u16
@@ -127,7 +128,7 @@ pub fn row(numbers: &[u8], place: usize) -> [u16; 24]
 }
 
 // Rows of so many windows, from a place on.
-pub fn grid(numbers: &[u8], place: usize, windows: usize) -> [[u16; 24]; 32]
+pub fn grid(numbers: &[u8], place: usize, windows: usize) -> Caps
     requires { ⌜ (place < 4500000000) × (windows < 65536) ⌝ }
 {
     let mut grid = [[0u16; 24]; 32];

@@ -31,9 +31,9 @@ use Rattle.dayfile.proofs.Fields.{fields-at}
 use Rattle.dayfile.proofs.Grids.{sized-flat-length}
 use Rattle.dayfile.proofs.Container.{nth, before, start-is, size-is, body-is}
 use Rattle.dayfile.proofs.Sound.{kept}
-use Rattle.writer.specs.Stores.{entries, slotsIn, partsIn}
+use Rattle.writer.specs.Stores.{entries, slotsIn}
 use Rattle.writer.specs.Values.{outsideIn}
-use Rattle.writer.proofs.Files.{parts-count}
+use Rattle.writer.proofs.Files.{partsIn, parts-count}
 
 -- ---- counts and sizes
 
@@ -129,31 +129,27 @@ module _ (d : Day) where
   unfolding fileIn fileOf partsIn
   file-is = refl
 
+  size-of : (e : ℕ) → e < 3 → (xs : List ℕ) (k : ℕ) → nth ps e .body ≡ xs → length xs ≡ k → size f e ≡ 2 * k
+  size-of e h xs k q l =
+      size-is (length ps) ps refl e (omega (arith, three .many)) ∙ ap (λ (ys : List ℕ). 2 * length ys) q ∙ ap (λ (i : ℕ). 2 * i) l
+
   size-seats : size f 0 ≡ 2 * n
-  size-seats =
-      let t = three in
-      size-is (length ps) ps refl 0 (omega (arith, t .many))
-      ∙ ap (λ (xs : List ℕ). 2 * length xs) (t .classes)
-      ∙ ap (λ (k : ℕ). 2 * k) (sized-length n (d .book .classes))
+  size-seats = size-of 0 (omega arith) (sized n (d .book .classes)) n (three .classes) (sized-length n (d .book .classes))
 
   size-windows : size f 1 ≡ 2 * m
-  size-windows =
-      let t = three in
-      size-is (length ps) ps refl 1 (omega (arith, t .many))
-      ∙ ap (λ (xs : List ℕ). 2 * length xs) (t .supplies)
-      ∙ ap (λ (k : ℕ). 2 * k) (sized-length m (d .book .supplies))
+  size-windows = size-of 1 (omega arith) (sized m (d .book .supplies)) m (three .supplies) (sized-length m (d .book .supplies))
+
+  size-line : (e high k : ℕ) → size f e ≡ 2 * k
+      → when (not (sizeRight 2 (2 * high) (size f e))) (sizeAt e) ≡ when (not (within 1 high k)) (sizeAt e)
+  size-line e high k q = ap (λ (x : Bool). when (not x) (sizeAt e)) (ap (sizeRight 2 (2 * high)) q ∙ size-within 1 high k)
 
   pub seven : line7 (fileIn d) ≡ when (not (within 1 32 (d .book .seats))) (sizeAt 0)
   unfolding line7
-  seven =
-      ap line7 (sym file-is)
-      ∙ ap (λ (x : Bool). when (not x) (sizeAt 0)) (ap (sizeRight 2 64) size-seats ∙ size-within 1 32 n)
+  seven = ap line7 (sym file-is) ∙ size-line 0 32 n size-seats
 
   pub eight : line8 (fileIn d) ≡ when (not (within 1 24 (d .book .windows))) (sizeAt 1)
   unfolding line8
-  eight =
-      ap line8 (sym file-is)
-      ∙ ap (λ (x : Bool). when (not x) (sizeAt 1)) (ap (sizeRight 2 48) size-windows ∙ size-within 1 24 m)
+  eight = ap line8 (sym file-is) ∙ size-line 1 24 m size-windows
 
   -- the bounds that lines 7 and 8 let pass
   pub counts-pass : firstOf (line 7 (line7 (fileIn d)) ∷ line 8 (line8 (fileIn d)) ∷ []) ≡ none
@@ -180,7 +176,8 @@ module _ (d : Day) where
     ten =
         let s = size-seats in
         let l = sized-length n (d .book .classes) in
-        search-body 0 (omega arith) (sized n (d .book .classes)) (seatsIn f) at 1 8 (three .classes) (omega arith) (omega (arith, first, three .first))
+        search-body 0 (omega arith) (sized n (d .book .classes)) (seatsIn f) at 1 8 (three .classes) (omega arith)
+        (omega (arith, first, three .first))
 
     eleven : line11 f ≡ outsideIn (sized m (d .book .supplies)) (at + 2 * n) 0 4095
     unfolding line11

@@ -1,7 +1,7 @@
 -- What is stored is the file: contents and bodies by one step for each slot.
 -- Assumes nothing.
 use mathlib.Core.Bool.{Bool, true, false}
-use mathlib.Core.List.{List, [], _∷_, _++_}
+use mathlib.Core.List.{List, [], _∷_, _++_, append-assoc}
 use mathlib.Core.Option.{Option, none, some}
 use mathlib.Core.Path.{_≡_, refl, sym, _∙_, ap, ap₂, subst}
 use Prim.Native.Nat.{ℕ, _+_, _*_, _≤_, _<_}
@@ -13,17 +13,17 @@ use Rattle.sheet.specs.Sheets.{gridOf}
 use Rattle.sheet.specs.declared.Sheet.{Sheet}
 use Rattle.dayfile.specs.Layout.{contentsEnd}
 use Rattle.dayfile.specs.File.{Part, bytesOf, contents, bodies, fieldsOf, assemble, flat, flatIf, optPart, optParts, partsOf, fileOf}
-use Rattle.dayfile.specs.Table.{plannedLength}
-use Rattle.dayfile.specs.Memory.{sized, sizedGrid, bookIn, sheetIn, dayBook, fileIn, front}
+use Rattle.dayfile.specs.Table.{known, plannedLength}
+use Rattle.dayfile.specs.Memory.{sized, sizedGrid, bookIn, sheetIn, dayBook, daySheet, fileIn, front}
 use Rattle.dayfile.specs.declared.Book as Memory
 use Rattle.dayfile.specs.declared.Day.{Day}
 use Rattle.dayfile.proofs.Tables.{sized-length}
 use Rattle.dayfile.proofs.Fields.{length-bytes}
 use Rattle.dayfile.proofs.Grids.{sized-flat-length}
-use Rattle.writer.specs.Stores.{Put, sizeIf, optional, total, count, size, entry, entries, sizes, entriesAt}
-use Rattle.writer.specs.Stores.{head, fileLength, slot, slotsOf, slotsIn, Of, partsIn}
+use Rattle.writer.specs.Stores.{Room, Put, sizeIf, fieldsIf, total, count, size, entry, entries, sizes, entriesAt}
+use Rattle.writer.specs.Stores.{head, slot, slotsOf, slotsIn, bookFields, optionFields, Of}
 use Rattle.writer.specs.declared.contents.Slot.{Slot}
-use Rattle.writer.proofs.Storing.{stored-front, put-then, put-as, put-long, Rooms}
+use Rattle.writer.proofs.Storing.{put-none, put-then, put-as, put-end, put-front, room-first, room-next, room-as, grid-if}
 
 -- ---- one slot: its entry, its body, its count
 
@@ -32,12 +32,12 @@ ifThere true xs = some xs
 ifThere false xs = none
 
 contents-opt : (at k n : ℕ) (t : Bool) (xs : List ℕ) (qs : List Part) → length xs ≡ n
-    → contents at (optPart k (ifThere t xs) ++ qs) ≡ optional t (k ∷ at ∷ 2 * n ∷ []) ++ contents (at + 2 * sizeIf t n) qs
+    → contents at (optPart k (ifThere t xs) ++ qs) ≡ fieldsIf t (k ∷ at ∷ 2 * n ∷ []) ++ contents (at + 2 * sizeIf t n) qs
 unfolding optPart contents
 contents-opt at k n true xs qs e = ap (λ (i : ℕ). k ∷ at ∷ 2 * i ∷ contents (at + 2 * i) qs) e
 contents-opt at k n false xs qs e = ap (λ (i : ℕ). contents i qs) {x = at} {y = at + 2 * 0} (omega arith)
 
-bodies-opt : (k : ℕ) (t : Bool) (xs : List ℕ) (qs : List Part) → bodies (optPart k (ifThere t xs) ++ qs) ≡ optional t xs ++ bodies qs
+bodies-opt : (k : ℕ) (t : Bool) (xs : List ℕ) (qs : List Part) → bodies (optPart k (ifThere t xs) ++ qs) ≡ fieldsIf t xs ++ bodies qs
 unfolding optPart bodies
 bodies-opt k true xs qs = refl
 bodies-opt k false xs qs = refl
@@ -47,7 +47,7 @@ unfolding optPart
 count-opt k true xs qs = omega arith
 count-opt k false xs qs = omega arith
 
-length-opt : (t : Bool) (xs : List ℕ) (n : ℕ) → length xs ≡ n → length (optional t xs) ≡ sizeIf t n
+length-opt : (t : Bool) (xs : List ℕ) (n : ℕ) → length xs ≡ n → length (fieldsIf t xs) ≡ sizeIf t n
 length-opt true xs n e = e
 length-opt false xs n e = refl
 
@@ -55,7 +55,7 @@ length-opt false xs n e = refl
 pub entry-long : (s : Slot) (at : ℕ) → length (entry s at) ≡ 3 * count s
 entry-long s at = go (s .there)
   where
-    go : (t : Bool) → length (optional t (s .kind ∷ at ∷ 2 * s .fields ∷ [])) ≡ 3 * sizeIf t 1
+    go : (t : Bool) → length (fieldsIf t (s .kind ∷ at ∷ 2 * s .fields ∷ [])) ≡ 3 * sizeIf t 1
     go true = refl
     go false = refl
 
@@ -75,11 +75,6 @@ abbrev parts : List Full → List Part
 parts [] = []
 parts (f ∷ fs) = optPart (f .at .kind) (ifThere (f .at .there) (f .body)) ++ parts fs
 
--- the bodies as they are stored
-abbrev bodiesIn : List Full → List ℕ
-bodiesIn [] = []
-bodiesIn (f ∷ fs) = optional (f .at .there) (f .body) ++ bodiesIn fs
-
 contents-are : (at : ℕ) (fs : List Full) → contents at (parts fs) ≡ entriesAt at (slots fs)
 unfolding contents entriesAt
 contents-are at [] = refl
@@ -87,25 +82,20 @@ contents-are at (f ∷ fs) =
     contents-opt at (f .at .kind) (f .at .fields) (f .at .there) (f .body) (parts fs) (f .long)
     ∙ ap (λ (ws : List ℕ). entry (f .at) at ++ ws) (contents-are (at + 2 * size (f .at)) fs)
 
-bodies-are : (fs : List Full) → bodies (parts fs) ≡ bodiesIn fs
-unfolding bodies
-bodies-are [] = refl
-bodies-are (f ∷ fs) =
-    bodies-opt (f .at .kind) (f .at .there) (f .body) (parts fs)
-    ∙ ap (λ (ws : List ℕ). optional (f .at .there) (f .body) ++ ws) (bodies-are fs)
-
 count-is : (fs : List Full) → length (parts fs) ≡ entries (slots fs)
 unfolding total
 count-is [] = refl
 count-is (f ∷ fs) =
     count-opt (f .at .kind) (f .at .there) (f .body) (parts fs) ∙ ap (λ (n : ℕ). sizeIf (f .at .there) 1 + n) (count-is fs)
 
-sizes-are : (fs : List Full) → length (bodiesIn fs) ≡ sizes (slots fs)
-unfolding total
-sizes-are [] = refl
-sizes-are (f ∷ fs) =
+bodies-long : (fs : List Full) → length (bodies (parts fs)) ≡ sizes (slots fs)
+unfolding total bodies
+bodies-long [] = refl
+bodies-long (f ∷ fs) =
     let e = length-opt (f .at .there) (f .body) (f .at .fields) (f .long) in
-    let r = sizes-are fs in length-append (optional (f .at .there) (f .body)) (bodiesIn fs) ∙ omega arith
+    let r = bodies-long fs in
+    let t : List ℕ = fieldsIf (f .at .there) (f .body) in
+    ap length (bodies-opt (f .at .kind) (f .at .there) (f .body) (parts fs)) ∙ length-append t (bodies (parts fs)) ∙ omega arith
 
 pub entries-long : (ss : List Slot) (at : ℕ) → length (entriesAt at ss) ≡ 3 * entries ss
 unfolding entriesAt total
@@ -133,18 +123,18 @@ size-most true n = omega arith
 size-most false n = omega arith
 
 pub slots-fit : (b : Memory.Book) (t : Bool) {ss : List Slot} → ss ≡ slotsOf b t → (b .seats ≤ 32) × (b .windows ≤ 24)
-    → (length ss ≡ 4) × (sizes ss < 30000)
+    → (length ss ≡ known) × (sizes ss < 30000)
 unfolding slotsOf total
 slots-fit b t e h =
     let q = mul-le-mul (h .0) (h .1) in
     let s = size-most t (b .seats * b .windows) in
     let small : sizes (slotsOf b t) < 30000 = omega (arith, h) in (ap length e, subst (λ (xs : List Slot). sizes xs < 30000) (sym e) small)
 
-rows-size : (t : Bool) (n m : ℕ) → sizeIf t n * m ≡ sizeIf t (n * m)
-rows-size true n m = refl
-rows-size false n m = omega arith
-
 -- ---- a day
+
+-- the parts of its file
+unfoldable pub partsIn : Day → List Part
+partsIn d = partsOf (dayBook d) (daySheet d)
 
 module _ (d : Day) where
   abbrev n : ℕ
@@ -183,26 +173,30 @@ module _ (d : Day) where
       ∷ ps in
       ap (λ (o : Option (List ℕ)). front (optPart 4 o ++ [])) (sheet-flat (d .«has_sheet»))
 
-  -- room for the bodies: a further kind is one more run
-  pub day-rooms : (l : List ℕ) {at : ℕ} → at + 2 * sizes (slotsIn d) ≤ length l
-      → Rooms l at (n ∷ m ∷ n * m ∷ sizeIf (d .«has_sheet») n * m ∷ [])
-  unfolding slotsOf total
-  day-rooms l h = let e = rows-size (d .«has_sheet») n m in record { fit = omega arith }
-
   pub parts-count : length (partsIn d) ≡ entries (slotsIn d)
   parts-count = ap length parts-are ∙ count-is all ∙ ap entries slots-are
 
-  pub parts-bodies : bodies (partsIn d)
-      ≡ sized n (d .book .classes)
-      ++ (sized m (d .book .supplies)
-      ++ (flat (sizedGrid n m (gridOf (d .caps)))
-      ++ (optional (d .«has_sheet») (flat (sizedGrid n m (gridOf (d .sheet)))) ++ [])))
-  parts-bodies = ap bodies parts-are ∙ bodies-are all
+  -- the bodies, in the order in which they are stored
+  bodies-are : bodies (partsIn d) ≡ bookFields (d .book) (d .caps) ++ optionFields d
+  unfolding partsIn partsOf bodies bookIn bookFields
+  bodies-are =
+      let x : List ℕ = sized n (d .book .classes) in
+      let y : List ℕ = sized m (d .book .supplies) in
+      let z : List ℕ = cells (gridOf (d .caps)) in
+      let o : List ℕ = optionFields d in
+      ap (λ (ws : List ℕ). x ++ ws) (sym (append-assoc y z o)) ∙ sym (append-assoc x (y ++ z) o)
 
-  bodies-long : length (bodies (partsIn d)) ≡ sizes (slotsIn d)
-  bodies-long = ap (λ (ps : List Part). length (bodies ps)) parts-are ∙ ap length (bodies-are all) ∙ sizes-are all ∙ ap sizes slots-are
+  pub options-are : optionFields d ≡ fieldsIf (d .«has_sheet») (flat (sizedGrid n m (gridOf (d .sheet)))) ++ []
+  unfolding optParts bodies
+  options-are =
+      ap (λ (o : Option (List ℕ)). bodies (optPart 4 o ++ [])) (sheet-flat (d .«has_sheet»))
+      ∙ bodies-opt 4 (d .«has_sheet») (cells (gridOf (d .sheet))) []
 
-  file-is : fileIn d ≡ bytesOf (head (slotsIn d) ++ bodies (partsIn d))
+  -- the file's fields: the contents, then the bodies
+  abbrev fields : List ℕ
+  fields = head (slotsIn d) ++ (bookFields (d .book) (d .caps) ++ optionFields d)
+
+  file-is : fileIn d ≡ bytesOf fields
   unfolding fileIn fileOf assemble partsIn
   file-is =
       let p = parts-are in
@@ -210,45 +204,109 @@ module _ (d : Day) where
       ∙ ap bytesOf (fields-are all)
       ∙ ap (λ (ps : List Part). bytesOf (head (slots all) ++ bodies ps)) (sym p)
       ∙ ap (λ (ss : List Slot). bytesOf (head ss ++ bodies (partsIn d))) slots-are
+      ∙ ap (λ (ws : List ℕ). bytesOf (head (slotsIn d) ++ ws)) bodies-are
 
-  pub file-long : length (fileIn d) ≡ fileLength (slotsIn d)
+  fields-long : length (fileIn d) ≡ 2 * length fields
+  fields-long = ap length file-is ∙ length-bytes fields
+
+  file-long : length (fileIn d) ≡ contentsEnd (entries (slotsIn d)) + 2 * sizes (slotsIn d)
   file-long =
-      let ss : List Slot = slotsIn d in
-      let e = bodies-long in
-      let h = head-long ss in
-      let a = length-append (head ss) (bodies (partsIn d)) in
-      ap length file-is ∙ length-bytes (head ss ++ bodies (partsIn d)) ∙ omega arith
+      let h = head-long (slotsIn d) in
+      let b : length (bookFields (d .book) (d .caps) ++ optionFields d) ≡ sizes (slotsIn d) =
+      ap length (sym bodies-are) ∙ ap (λ (ps : List Part). length (bodies ps)) parts-are ∙ bodies-long all ∙ ap sizes slots-are in
+      let a = length-append (head (slotsIn d)) (bookFields (d .book) (d .caps) ++ optionFields d) in fields-long ∙ omega arith
 
-  -- the buffer with both stored is the file at its front
-  pub file-front : {l : List ℕ} {p r : ℕ} {b e : List ℕ} → length (fileIn d) ≤ length l
-      → Put l 0 (head (slotsIn d)) p b → Put b p (bodies (partsIn d)) r e
-      → (r ≡ length (fileIn d)) × (e ≡ front (fileIn d) l)
-  unfolding front
-  file-front {l} {p} {r} {b} {e} h c k =
-      let ws : List ℕ = head (slotsIn d) ++ bodies (partsIn d) in
-      let both = put-then c k in
-      let same : length (fileIn d) ≡ length (bytesOf ws) = ap length file-is in
-      let w = length-bytes ws in
-      let q = both .behind in (
-        omega arith,
-        both .holds ∙ stored-front l ws (omega arith) ∙ ap (λ (f : List ℕ). f ++ drop (length f) l) (sym file-is),
-      )
+-- ---- the bodies that are always there
 
--- room for the contents and, behind them, for the bodies
-pub contents-room : (d : Day) {ss : List Slot} (l : List ℕ) → ss ≡ slotsIn d → (d .book .seats ≤ 32) × (d .book .windows ≤ 24)
-    → length (fileIn d) ≤ length l → (length ss ≡ 4) × (contentsEnd (entries ss) ≤ length l) × (sizes ss < 30000)
-contents-room d {ss} l e h k =
-    let f = file-long d in
-    let s = slots-fit (d .book) (d .«has_sheet») e h in
-    let room : contentsEnd (entries (slotsIn d)) ≤ length l = omega arith in
-    (s .0, subst (λ (xs : List Slot). contentsEnd (entries xs) ≤ length l) (sym e) room, s .1)
+module _ (b : Memory.Book) (caps : Sheet) where
+  abbrev classes : List ℕ
+  classes = sized (b .seats) (b .classes)
 
-pub bodies-room : (d : Day) {ss : List Slot} {l : List ℕ} {p : ℕ} {b : List ℕ} → ss ≡ slotsIn d → length (fileIn d) ≤ length l
-    → Put l 0 (head ss) p b → p + 2 * sizes (slotsIn d) ≤ length b
-bodies-room d {ss} {l} {p} {b} e k h =
-    let f = file-long d in
-    let w = head-long (slotsIn d) in
-    let c = put-as (ap head e) h in let x = c .behind in let y = put-long c in omega arith
+  abbrev supplies : List ℕ
+  supplies = sized (b .windows) (b .supplies)
+
+  abbrev grid : List ℕ
+  grid = flat (sizedGrid (b .seats) (b .windows) (gridOf caps))
+
+  module _ {l : List ℕ} {at : ℕ} (r : Room l at (bookFields b caps)) where
+    pub classes-room : Room l at (sized (b .seats) (b .classes))
+    unfolding bookFields
+    classes-room = room-first classes (supplies ++ grid) r
+
+    module _ {p : ℕ} {x : List ℕ} (h : Put l at (sized (b .seats) (b .classes)) p x) where
+      behind-classes : Room x p (supplies ++ grid)
+      unfolding bookFields
+      behind-classes = room-next classes (supplies ++ grid) r h
+
+      pub supplies-room : Room x p (sized (b .windows) (b .supplies))
+      supplies-room = room-first supplies grid behind-classes
+
+      pub caps-room : {q : ℕ} {y : List ℕ} → Put x p (sized (b .windows) (b .supplies)) q y
+          → Room y q (flat (sizedGrid (b .seats) (b .windows) (gridOf caps)))
+      caps-room k = room-next supplies grid behind-classes k
+
+  pub book-put : {l x y z : List ℕ} {at p q r : ℕ} → Put l at (sized (b .seats) (b .classes)) p x
+      → Put x p (sized (b .windows) (b .supplies)) q y → Put y q (flat (sizedGrid (b .seats) (b .windows) (gridOf caps))) r z
+      → Put l at (bookFields b caps) r z
+  unfolding bookFields
+  book-put h k g = put-then h (put-then k g)
+
+-- ---- the bodies that may be missing: a further kind is one step more
+
+module _ (d : Day) {rows : ℕ} (e : rows ≡ sizeIf (d .«has_sheet») (d .book .seats)) where
+  sheet-rows : flat (sizedGrid rows (d .book .windows) (gridOf (d .sheet)))
+      ≡ fieldsIf (d .«has_sheet») (flat (sizedGrid (d .book .seats) (d .book .windows) (gridOf (d .sheet))))
+  sheet-rows =
+      ap (λ (k : ℕ). flat (sizedGrid k (d .book .windows) (gridOf (d .sheet)))) e
+      ∙ grid-if (d .«has_sheet») (d .book .seats) (d .book .windows) (gridOf (d .sheet))
+
+  pub sheet-room : {l : List ℕ} {at : ℕ} → Room l at (optionFields d)
+      → Room l at (flat (sizedGrid rows (d .book .windows) (gridOf (d .sheet))))
+  sheet-room r =
+      room-as (sym sheet-rows)
+      (room-first (fieldsIf (d .«has_sheet») (flat (sizedGrid (d .book .seats) (d .book .windows) (gridOf (d .sheet))))) []
+      (room-as (options-are d) r))
+
+  pub options-put : {l x : List ℕ} {at p : ℕ} → Put l at (flat (sizedGrid rows (d .book .windows) (gridOf (d .sheet)))) p x
+      → Put l at (optionFields d) p x
+  options-put h = put-as (sym (options-are d)) (put-then (put-as sheet-rows h) (put-none _ _))
+
+-- ---- a day, stored: first its contents, then its book, then what may be missing
+
+module _ (d : Day) (l : List ℕ) {ss : List Slot} (e : ss ≡ slotsIn d) (long : length (fileIn d) ≤ length l) where
+  abbrev book : List ℕ
+  book = bookFields (d .book) (d .caps)
+
+  room : Room l 0 (head (slotsIn d) ++ (bookFields (d .book) (d .caps) ++ optionFields d))
+  room = let f = fields-long d in record { fits = omega arith }
+
+  -- room for the contents
+  pub contents-room : Room l 0 (head ss)
+  contents-room = room-as (ap head (sym e)) (room-first (head (slotsIn d)) (book ++ optionFields d) room)
+
+  module _ {p : ℕ} {b : List ℕ} (c : Put l 0 (head ss) p b) where
+    behind : Room b p (bookFields (d .book) (d .caps) ++ optionFields d)
+    behind = room-next (head (slotsIn d)) (book ++ optionFields d) room (put-as (ap head e) c)
+
+    -- room for the book
+    pub book-room : Room b p (bookFields (d .book) (d .caps))
+    book-room = room-first book (optionFields d) behind
+
+    module _ {q : ℕ} {x : List ℕ} (k : Put b p (bookFields (d .book) (d .caps)) q x) where
+      -- room for what may be missing
+      pub options-room : Room x q (optionFields d)
+      options-room = room-next book (optionFields d) behind k
+
+      -- the whole is the file at the buffer's front
+      pub file-front : {r : ℕ} {y : List ℕ} → Put x q (optionFields d) r y → (r ≡ length (fileIn d)) × (y ≡ front (fileIn d) l)
+      unfolding front
+      file-front {r} {y} o =
+          let all = put-then (put-as (ap head e) c) (put-then k o) in
+          let n = fields-long d in
+          let z = put-end all in (
+            omega arith,
+            put-front all (omega arith) ∙ ap (λ (f : List ℕ). f ++ drop (length f) l) (sym (file-is d)),
+          )
 
 -- the length by the book alone
 pub length-told : {b : Memory.Book} {t : Bool} {ss : List Slot} {i j : ℕ} (d : Day) → ss ≡ slotsOf b t → i ≡ entries ss → j ≡ sizes ss

@@ -6,12 +6,11 @@ use mathlib.Core.Path.{_≡_, refl, sym, _∙_, ap}
 use Prim.Native.Nat.{ℕ, suc, _+_, _*_, _≤_, _<_, zero-le}
 use native.Mathlib.Numerals.{add-one}
 use native.Mathlib.Omega.{arith}
-use lib.ListN.{length, getD, drop, length-append}
+use lib.ListN.{length, getD, drop}
 use lib.Seq.{drop-cons, drop-length}
-use Rattle.writer.specs.Stores.{Put, sizeIf, optional, total, count, size, entry, entries, sizes, entriesAt, head}
+use Rattle.writer.specs.Stores.{Room, Put, sizeIf, fieldsIf, total, count, size, entry, entries, sizes, entriesAt, head}
 use Rattle.writer.specs.declared.contents.Slot.{Slot}
-use Rattle.writer.proofs.Storing.{put-none, put-then, put-as, put-long}
-use Rattle.writer.proofs.Files.{entries-long}
+use Rattle.writer.proofs.Storing.{put-none, put-then, put-as, room-first, room-next, room-as}
 
 -- ---- one slot
 
@@ -20,11 +19,11 @@ pub there-size : (s : Slot) → s .there ≡ true → size s ≡ s .fields
 there-size s e = ap (λ (t : Bool). sizeIf t (s .fields)) e
 
 pub there-entry : (s : Slot) (at : ℕ) → s .there ≡ true → entry s at ≡ s .kind ∷ at ∷ 2 * s .fields ∷ []
-there-entry s at e = ap (λ (t : Bool). optional t (s .kind ∷ at ∷ 2 * s .fields ∷ [])) e
+there-entry s at e = ap (λ (t : Bool). fieldsIf t (s .kind ∷ at ∷ 2 * s .fields ∷ [])) e
 
--- what is missing
+-- what is missing: nothing is stored
 pub missing-put : (l : List ℕ) (p : ℕ) (s : Slot) (at : ℕ) → s .there ≡ false → Put l p (entry s at) p l
-missing-put l p s at e = put-as (ap (λ (t : Bool). optional t (s .kind ∷ at ∷ 2 * s .fields ∷ [])) (sym e)) (put-none l p)
+missing-put l p s at e = put-as (ap (λ (t : Bool). fieldsIf t (s .kind ∷ at ∷ 2 * s .fields ∷ [])) (sym e)) (put-none l p)
 
 -- ---- several
 
@@ -84,18 +83,13 @@ module _ {l : List ℕ} {at start : ℕ} {ss : List Slot} where
   pub entered-first : Entered l at start ss 0 at start l
   entered-first = record { within = zero-le; fields = []; put = put-none l at; rest = refl; bodies = refl }
 
-  -- room for the next entry, and for the starts of the bodies
+  -- room for the next entry, and a bound for where its body starts
   pub entered-room : {i p body : ℕ} {b : List ℕ} (z : Slot) → Entered l at start ss i p body b → i < length ss
-      → at + 6 * entries ss ≤ length l → p + 2 * length (entry (getD ss i z) body) ≤ length b
-  entered-room {i} {p} {body} {b} z e h room =
+      → Room l at (entriesAt start ss) → Room b p (entry (getD ss i z) body)
+  entered-room {i} {p} {body} z e h r =
       let s : Slot = getD ss i z in
-      let all = ap length (e .rest) in
-      let a = length-append (e .fields) (entriesAt body (drop i ss)) in
-      let n = ap length (entries-next ss body i z h) in
-      let k = length-append (entry s body) (entriesAt (body + 2 * size s) (drop (i + 1) ss)) in
-      let w = entries-long ss start in
-      let q = e .put .behind in
-      let same = put-long (e .put) in omega arith
+      let left = room-next (e .fields) (entriesAt body (drop i ss)) (room-as (sym (e .rest)) r) (e .put) in
+      room-first (entry s body) (entriesAt (body + 2 * size s) (drop (i + 1) ss)) (room-as (entries-next ss body i z h) left)
 
   pub entered-start : {i p body n top : ℕ} {b : List ℕ} (z : Slot) → Entered l at start ss i p body b → i < length ss
       → start + 2 * sizes ss < top → n ≡ size (getD ss i z) → body + 2 * n < top
@@ -128,7 +122,20 @@ module _ {l : List ℕ} {at start : ℕ} {ss : List Slot} where
       ∙ e .rest)
       (e .put)
 
--- the number of entries, then the entries
+-- ---- the number of entries, then the entries
+
+-- told by the number n
+head-as : {l : List ℕ} {n : ℕ} (ss : List Slot) → n ≡ entries ss → Room l 0 (head ss) → Room l 0 ((n ∷ []) ++ entriesAt (2 + 6 * n) ss)
+unfolding head
+head-as ss e r = room-as (ap (λ (x : ℕ). x ∷ entriesAt (2 + 6 * x) ss) (sym e)) r
+
+pub head-first : {l : List ℕ} {n : ℕ} (ss : List Slot) → n ≡ entries ss → Room l 0 (head ss) → Room l 0 (n ∷ [])
+head-first {n = n} ss e r = room-first (n ∷ []) (entriesAt (2 + 6 * n) ss) (head-as ss e r)
+
+pub head-next : {l b : List ℕ} {n p : ℕ} (ss : List Slot) → n ≡ entries ss → Room l 0 (head ss) → Put l 0 (n ∷ []) p b
+    → Room b p (entriesAt (2 + 6 * n) ss)
+head-next {n = n} ss e r c = room-next (n ∷ []) (entriesAt (2 + 6 * n) ss) (head-as ss e r) c
+
 pub head-put : {l b d : List ℕ} {n p r : ℕ} (ss : List Slot) → n ≡ entries ss
     → Put l 0 (n ∷ []) p b → Put b p (entriesAt (2 + 6 * n) ss) r d → Put l 0 (head ss) r d
 unfolding head

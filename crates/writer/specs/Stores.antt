@@ -2,24 +2,25 @@
 use mathlib.Core.Bool.{Bool, true, false}
 use mathlib.Core.List.{List, [], _∷_, _++_}
 use mathlib.Core.Path.{_≡_}
-use Prim.Native.Nat.{ℕ, _+_, _*_}
+use Prim.Native.Nat.{ℕ, _+_, _*_, _≤_}
 use lib.ListN.{length}
-use lib.Seq.{sets}
+use Rattle.lists.specs.Buffers.{Stored}
+use Rattle.sheet.specs.Sheets.{gridOf}
+use Rattle.sheet.specs.declared.Sheet.{Sheet}
 use Rattle.dayfile.specs.Layout.{contentsEnd}
-use Rattle.dayfile.specs.File.{Part, bytesOf, partsOf}
-use Rattle.dayfile.specs.Memory.{dayBook, daySheet}
+use Rattle.dayfile.specs.File.{bytesOf, bodies, flat, optParts}
+use Rattle.dayfile.specs.Memory.{sized, sizedGrid, daySheet}
 use Rattle.dayfile.specs.declared.Book as Memory
 use Rattle.dayfile.specs.declared.Day.{Day}
 use Rattle.writer.specs.declared.contents.Slot.{Slot}
 
--- a buffer with fields stored from an offset on
-unfoldable pub stored : List ℕ → ℕ → List ℕ → List ℕ
-stored buf at ws = sets buf at (bytesOf ws)
+-- a buffer has room for fields from an offset on
+pub record Room (buf : List ℕ) (at : ℕ) (fields : List ℕ) : Type 0 where
+  pub fits : at + 2 * length fields ≤ length buf
 
 -- fields were stored into a buffer from an offset on: the offset behind them, and the buffer afterwards
-pub record Put (buf : List ℕ) (at : ℕ) (ws : List ℕ) (next : ℕ) (end : List ℕ) : Type 0 where
-  pub behind : next ≡ at + 2 * length ws
-  pub holds : end ≡ stored buf at ws
+pub record Put (buf : List ℕ) (at : ℕ) (fields : List ℕ) (next : ℕ) (end : List ℕ) : Type 0 where
+  pub bytes : Stored buf at (bytesOf fields) end next
 
 -- ---- a slot: a part that may be missing
 
@@ -27,9 +28,9 @@ abbrev pub sizeIf : Bool → ℕ → ℕ
 sizeIf true n = n
 sizeIf false n = 0
 
-abbrev pub optional : Bool → List ℕ → List ℕ
-optional true ws = ws
-optional false ws = []
+abbrev pub fieldsIf : Bool → List ℕ → List ℕ
+fieldsIf true ws = ws
+fieldsIf false ws = []
 
 -- how many entries it has, and how many fields its body
 abbrev pub count : Slot → ℕ
@@ -40,7 +41,7 @@ size s = sizeIf (s .there) (s .fields)
 
 -- its entry, where its body starts at `at`
 abbrev pub entry : Slot → ℕ → List ℕ
-entry s at = optional (s .there) (s .kind ∷ at ∷ 2 * s .fields ∷ [])
+entry s at = fieldsIf (s .there) (s .kind ∷ at ∷ 2 * s .fields ∷ [])
 
 -- ---- all slots, by one step for each
 
@@ -64,15 +65,12 @@ entriesAt at (s ∷ ss) = entry s at ++ entriesAt (at + 2 * size s) ss
 unfoldable pub head : List Slot → List ℕ
 head ss = entries ss ∷ entriesAt (contentsEnd (entries ss)) ss
 
-abbrev pub fileLength : List Slot → ℕ
-fileLength ss = contentsEnd (entries ss) + 2 * sizes ss
-
 -- ---- a day
 
 abbrev pub slot : ℕ → Bool → ℕ → Slot
 slot kind there fields = record { kind = kind; there = there; fields = fields }
 
--- its slots: a further kind is one more
+-- its slots, as many as kinds are known: a further kind is one more
 unfoldable pub slotsOf : Memory.Book → Bool → List Slot
 slotsOf b hasSheet =
     slot 1 true (b .seats)
@@ -84,11 +82,15 @@ slotsOf b hasSheet =
 abbrev pub slotsIn : Day → List Slot
 slotsIn d = slotsOf (d .book) (d .«has_sheet»)
 
+-- the bodies that are always there, and those that may be missing
+unfoldable pub bookFields : Memory.Book → Sheet → List ℕ
+bookFields b caps =
+    sized (b .seats) (b .classes) ++ (sized (b .windows) (b .supplies) ++ flat (sizedGrid (b .seats) (b .windows) (gridOf caps)))
+
+abbrev pub optionFields : Day → List ℕ
+optionFields d = bodies (optParts (daySheet d))
+
 -- a day of this book, with or without a sheet
 pub record Of (b : Memory.Book) (hasSheet : Bool) (d : Day) : Type 0 where
   pub book-is : d .book ≡ b
   pub sheet-is : d .«has_sheet» ≡ hasSheet
-
--- the parts of its file
-unfoldable pub partsIn : Day → List Part
-partsIn d = partsOf (dayBook d) (daySheet d)

@@ -1,26 +1,33 @@
 // The bodies of the file of a day in memory, by one step for each kind.
-ghost use mathlib.Core.Path.{_≡_};
-ghost use Prim.Native.Nat.{_+_, _*_, _≤_};
-ghost use lib.ListN.{length};
-ghost use Rattle.dayfile.specs.File.{bodies};
-ghost use Rattle.writer.specs.Stores.{Put, sizes, slotsIn, partsIn};
+ghost use Prim.Native.Nat.{_≤_};
+ghost use Rattle.writer.specs.Stores.{Room, Put, bookFields, optionFields};
 use super::numbers::put_all;
 use super::numbers::put_rows;
 use super::numbers::size_if;
+use dayfile::Book;
 use dayfile::Day;
+use sheet::Sheet;
 
-// What is missing has no fields and no rows.
-pub fn put_bodies(buf: &mut [u8], at: usize, day: Day) -> usize
-    requires { ⌜ (day .book .seats ≤ 32) × (at + 2 * sizes (slotsIn day) ≤ length (now buf)) ⌝ }
-    ensures { λ r. ⌜ Put (now (buf .entry)) at (bodies (partsIn day)) r (now (buf .exit)) ⌝ }
+// The bodies that are always there.
+pub fn put_book(buf: &mut [u8], at: usize, book: Book, caps: Sheet) -> usize
+    requires { ⌜ (book .seats ≤ 32) × Room (now buf) at (bookFields book caps) ⌝ }
+    ensures { λ r. ⌜ Put (now (buf .entry)) at (bookFields book caps) r (now (buf .exit)) ⌝ }
 {
-    let book = day.book;
     let n = book.seats;
     let m = book.windows;
     let classes = book.classes;
     let supplies = book.supplies;
     let p = put_all(buf, at, &classes, n);
     let p = put_all(buf, p, &supplies, m);
-    let p = put_rows(buf, p, day.caps, n, m);
-    put_rows(buf, p, day.sheet, size_if(day.has_sheet, n), m)
+    put_rows(buf, p, caps, n, m)
+}
+
+// The bodies that may be missing: what is missing has no fields and no rows.
+pub fn put_options(buf: &mut [u8], at: usize, day: Day) -> usize
+    requires { ⌜ (day .book .seats ≤ 32) × Room (now buf) at (optionFields day) ⌝ }
+    ensures { λ r. ⌜ Put (now (buf .entry)) at (optionFields day) r (now (buf .exit)) ⌝ }
+{
+    let book = day.book;
+    let rows = size_if(day.has_sheet, book.seats);
+    put_rows(buf, at, day.sheet, rows, book.windows)
 }

@@ -3,10 +3,12 @@ ghost use mathlib.Core.Path.{_≡_};
 ghost use Prim.Native.Nat.{_+_, _*_, _<_, _≤_};
 ghost use lib.ListN.{length};
 ghost use Rattle.dayfile.specs.Layout.{contentsEnd};
-ghost use Rattle.writer.specs.Stores.{Put, size, entry, entries, sizes, entriesAt, head, slotsOf};
+ghost use Rattle.dayfile.specs.Table.{known};
+ghost use Rattle.writer.specs.Stores.{Room, Put, size, entry, entries, sizes, entriesAt, head, slotsOf};
 use super::numbers::put;
 use super::numbers::size_if;
 use dayfile::Book;
+use dayfile::KNOWN;
 
 // A part that a file can have: its kind, whether it is there, and how many fields its body has.
 pub struct Slot {
@@ -14,9 +16,6 @@ pub struct Slot {
     pub there: bool,
     pub fields: usize,
 }
-
-// How many parts a file can have.
-pub const SLOTS: usize = 4;
 
 // How many cells a grid of n seats and m windows has.
 fn cells(n: usize, m: usize) -> usize
@@ -27,7 +26,7 @@ fn cells(n: usize, m: usize) -> usize
 }
 
 // The slots of a book with or without a sheet, in the order of their kinds.
-pub fn slots_of(book: Book, has_sheet: bool) -> [Slot; SLOTS]
+pub fn slots_of(book: Book, has_sheet: bool) -> [Slot; KNOWN]
     requires { ⌜ (book .seats ≤ 32) × (book .windows ≤ 24) ⌝ }
     ensures { λ r. ⌜ r ≡ slotsOf book «has_sheet» ⌝ }
 {
@@ -57,13 +56,13 @@ pub fn slots_of(book: Book, has_sheet: bool) -> [Slot; SLOTS]
 }
 
 // The number of entries.
-pub fn count_entries(slots: [Slot; SLOTS]) -> usize
-    requires { ⌜ length slots ≡ 4 ⌝ }
-    ensures { λ r. ⌜ (r ≡ entries slots) × (r ≤ 4) ⌝ }
+pub fn count_entries(slots: [Slot; KNOWN]) -> usize
+    requires { ⌜ length slots ≡ known ⌝ }
+    ensures { λ r. ⌜ (r ≡ entries slots) × (r ≤ known) ⌝ }
 {
     let mut n = 0;
     let mut i = 0;
-    while i < SLOTS {
+    while i < KNOWN {
         let slot = slots[i];
         n += size_if(slot.there, 1);
         i += 1;
@@ -71,14 +70,22 @@ pub fn count_entries(slots: [Slot; SLOTS]) -> usize
     n
 }
 
+// Where the first body starts.
+pub fn first_body(book: Book, has_sheet: bool) -> usize
+    requires { ⌜ (book .seats ≤ 32) × (book .windows ≤ 24) ⌝ }
+    ensures { λ r. ⌜ (r ≡ contentsEnd (entries (slotsOf book «has_sheet»))) × (r ≤ contentsEnd known) ⌝ }
+{
+    2 + 6 * count_entries(slots_of(book, has_sheet))
+}
+
 // How many fields all bodies have.
-pub fn count_fields(slots: [Slot; SLOTS]) -> usize
-    requires { ⌜ (length slots ≡ 4) × (sizes slots < 30000) ⌝ }
+pub fn count_fields(slots: [Slot; KNOWN]) -> usize
+    requires { ⌜ (length slots ≡ known) × (sizes slots < 30000) ⌝ }
     ensures { λ r. ⌜ r ≡ sizes slots ⌝ }
 {
     let mut n = 0;
     let mut i = 0;
-    while i < SLOTS {
+    while i < KNOWN {
         let slot = slots[i];
         n += size_if(slot.there, slot.fields);
         i += 1;
@@ -88,7 +95,7 @@ pub fn count_fields(slots: [Slot; SLOTS]) -> usize
 
 // The entry of a part whose body starts at `start`; nothing where it is missing.
 fn put_entry(buf: &mut [u8], at: usize, slot: Slot, start: usize) -> usize
-    requires { ⌜ (at + 2 * length (entry slot start) ≤ length (now buf)) × (start + 2 * size slot < 65536) ⌝ }
+    requires { ⌜ Room (now buf) at (entry slot start) × (start + 2 * size slot < 65536) ⌝ }
     ensures { λ r. ⌜ Put (now (buf .entry)) at (entry slot start) r (now (buf .exit)) ⌝ }
 {
     if slot.there {
@@ -100,14 +107,14 @@ fn put_entry(buf: &mut [u8], at: usize, slot: Slot, start: usize) -> usize
 }
 
 // The entries, the first body at `start`.
-fn put_entries(buf: &mut [u8], at: usize, slots: [Slot; SLOTS], start: usize) -> usize
-    requires { ⌜ (length slots ≡ 4) × (at + 6 * entries slots ≤ length (now buf)) × (start + 2 * sizes slots < 65536) ⌝ }
+fn put_entries(buf: &mut [u8], at: usize, slots: [Slot; KNOWN], start: usize) -> usize
+    requires { ⌜ (length slots ≡ known) × Room (now buf) at (entriesAt start slots) × (start + 2 * sizes slots < 65536) ⌝ }
     ensures { λ r. ⌜ Put (now (buf .entry)) at (entriesAt start slots) r (now (buf .exit)) ⌝ }
 {
     let mut p = at;
     let mut body = start;
     let mut i = 0;
-    while i < SLOTS {
+    while i < KNOWN {
         let slot = slots[i];
         p = put_entry(buf, p, slot, body);
         body += 2 * size_if(slot.there, slot.fields);
@@ -117,8 +124,8 @@ fn put_entries(buf: &mut [u8], at: usize, slots: [Slot; SLOTS], start: usize) ->
 }
 
 // The number of entries and the entries.
-pub fn put_contents(buf: &mut [u8], slots: [Slot; SLOTS]) -> usize
-    requires { ⌜ (length slots ≡ 4) × (contentsEnd (entries slots) ≤ length (now buf)) × (sizes slots < 30000) ⌝ }
+pub fn put_contents(buf: &mut [u8], slots: [Slot; KNOWN]) -> usize
+    requires { ⌜ (length slots ≡ known) × Room (now buf) 0 (head slots) × (sizes slots < 30000) ⌝ }
     ensures { λ r. ⌜ Put (now (buf .entry)) 0 (head slots) r (now (buf .exit)) ⌝ }
 {
     let n = count_entries(slots);

@@ -6,7 +6,8 @@ ghost use Rattle.dayfile.specs.Table.{writeLines};
 ghost use Rattle.dayfile.specs.Memory.{fileIn, front, Writes};
 ghost use Rattle.dayfile.specs.declared.Day.{Day};
 ghost use Rattle.writer.specs.Stores.{Of};
-use bodies::put_bodies;
+use bodies::put_book;
+use bodies::put_options;
 use contents::count_entries;
 use contents::count_fields;
 use contents::put_contents;
@@ -38,7 +39,8 @@ pub fn put_file(out: &mut [u8], day: Day) -> usize
     ensures file { λ r. ⌜ now (out .exit) ≡ front (fileIn day) (now (out .entry)) ⌝ }
 {
     let p = put_contents(out, slots_of(day.book, day.has_sheet));
-    put_bodies(out, p, day)
+    let p = put_book(out, p, day.book, day.caps);
+    put_options(out, p, day)
 }
 
 // The file at the front of any buffer, or the refusal.

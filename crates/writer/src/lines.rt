@@ -1,4 +1,5 @@
-// Lines 7, 8, 10, 11, 12 and those of the parts that may be missing, on a day in memory, with the offsets of the file that would be written.
+// Lines 7, 8, 10, 11, 12 and those of the parts that may be missing, on a day in memory, with the offsets of the file that would be
+// written.
 ghost use mathlib.Core.Path.{_≡_};
 ghost use mathlib.Core.List.{[], _∷_, _++_};
 ghost use Prim.Native.Nat.{_+_, _*_, _<_, _≤_};
@@ -10,8 +11,7 @@ ghost use Rattle.dayfile.specs.Memory.{found, refused, sized, sizedGrid, fileIn
 ghost use Rattle.dayfile.specs.declared.Day.{Day};
 ghost use Rattle.writer.specs.Stores.{entries, slotsIn, Of};
 ghost use Rattle.writer.specs.Values.{outsideIn};
-use super::contents::count_entries;
-use super::contents::slots_of;
+use super::contents::first_body;
 use super::numbers::number;
 use dayfile::Book;
 use dayfile::Check;
@@ -87,6 +87,7 @@ fn check_values(book: Book, caps: Sheet, at: usize) -> Check
 
 // The lines of the parts that may be missing: paper 01 has none.
 fn check_options(_book: Book, _has_sheet: bool) -> Check
+    requires { ⌜ («_book» .seats ≤ 32) × («_book» .windows ≤ 24) ⌝ }
     ensures { λ r. ⌜ ((d : Day) → Of «_book» «_has_sheet» d → refused r ≡ firstOf (optionLines (fileIn d))) ⌝ }
 {
     Check::Sound
@@ -101,8 +102,8 @@ pub fn check_day(day: Day) -> Check
     if let Check::Refused { number, at } = check_counts(book) {
         return Check::Refused { number, at };
     }
-    let entries = count_entries(slots_of(book, day.has_sheet));
-    if let Check::Refused { number, at } = check_values(book, day.caps, 2 + 6 * entries) {
+    let start = first_body(book, day.has_sheet);
+    if let Check::Refused { number, at } = check_values(book, day.caps, start) {
         return Check::Refused { number, at };
     }
     check_options(book, day.has_sheet)

@@ -1,17 +1,17 @@
 // Numbers stored into a buffer as fields. Each function that stores gives the offset behind what it stored.
 ghost use mathlib.Core.Path.{_≡_};
 ghost use mathlib.Core.List.{[], _∷_};
-ghost use Prim.Native.Nat.{_+_, _*_, _<_, _≤_};
-ghost use lib.ListN.{length, getD};
+ghost use Prim.Native.Nat.{_<_, _≤_};
+ghost use lib.ListN.{getD};
 ghost use Rattle.sheet.specs.Sheets.{gridOf};
 ghost use Rattle.dayfile.specs.File.{flat};
 ghost use Rattle.dayfile.specs.Memory.{sized, sizedGrid};
-ghost use Rattle.writer.specs.Stores.{Put, sizeIf};
+ghost use Rattle.writer.specs.Stores.{Room, Put, sizeIf};
 use sheet::Sheet;
 
 // A field at an offset.
 pub fn put(buf: &mut [u8], at: usize, x: usize) -> usize
-    requires { ⌜ (at + 2 ≤ length (now buf)) × (x < 65536) ⌝ }
+    requires { ⌜ Room (now buf) at (x ∷ []) × (x < 65536) ⌝ }
     ensures { λ r. ⌜ Put (now (buf .entry)) at (x ∷ []) r (now (buf .exit)) ⌝ }
 {
     buf[at] = (x % 256) as u8;
@@ -41,7 +41,7 @@ pub fn size_if(there: bool, n: usize) -> usize
 
 // The first n numbers of a list.
 pub fn put_all(buf: &mut [u8], at: usize, src: &[u16], n: usize) -> usize
-    requires { ⌜ at + 2 * n ≤ length (now buf) ⌝ }
+    requires { ⌜ Room (now buf) at (sized n (now src)) ⌝ }
     ensures { λ r. ⌜ Put (now (buf .entry)) at (sized n (now (src .entry))) r (now (buf .exit)) ⌝ }
 {
     let mut p = at;
@@ -55,7 +55,7 @@ pub fn put_all(buf: &mut [u8], at: usize, src: &[u16], n: usize) -> usize
 
 // The first n rows of a grid, m cells of each.
 pub fn put_rows(buf: &mut [u8], at: usize, grid: Sheet, n: usize, m: usize) -> usize
-    requires { ⌜ (n ≤ 32) × (at + 2 * (n * m) ≤ length (now buf)) ⌝ }
+    requires { ⌜ (n ≤ 32) × Room (now buf) at (flat (sizedGrid n m (gridOf grid))) ⌝ }
     ensures { λ r. ⌜ Put (now (buf .entry)) at (flat (sizedGrid n m (gridOf grid))) r (now (buf .exit)) ⌝ }
 {
     let mut p = at;

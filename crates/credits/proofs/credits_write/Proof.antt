@@ -7,18 +7,9 @@ use Rattle.credits.proofs.credits_write.Tie as tie
 returns : tie.Need-returns
 returns c =
     let put = c .before .before .before in
-    let sheet = put .before in
-    let caps = sheet .before .before in
-    let book = caps .before .before .before .before .before .before .args .book in
-    writes-as book _ _ (caps .to-grid .ensures) (sheet .to-grid2 .ensures) _ _ _ (put .write .ensures) (c .of .ensures)
+    let given = put .before in
+    writes-as (put .write .result) (given .day .ensures) (put .write .ensures) (c .of .ensures)
 
 pub credits-write-spec : {M : Type 1} → statement M
 credits-write-spec =
-    tie.close
-    (tie.spec
-    (λ c κs. search needs)
-    (λ c κs. search needs)
-    (λ c κs. search needs)
-    (λ c κs. search needs)
-    (λ c. search needs)
-    returns)
+    tie.close (tie.spec (λ c κs. search needs) (λ c κs. search needs) (λ c κs. search needs) (λ c. search needs) returns)

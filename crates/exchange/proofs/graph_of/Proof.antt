@@ -10,14 +10,14 @@ use Rattle.masks.specs.Sets.{In}
 use Rattle.sheet.specs.Sheets.{noRow}
 use Rattle.reach.specs.Graphs.{Rows}
 use Rattle.reach.proofs.Collect.{rows-end}
-use Rattle.exchange.proofs.Drawing.{HasRoom, Held, held-first, held-next, drawn}
+use Rattle.exchange.proofs.Drawing.{HasRoom, HoldersOf, held-first, held-next, drawn}
 use Rattle.exchange.proofs.graph_of.Statement.{statement}
 use Rattle.exchange.proofs.graph_of.Tie as tie
 
 abbrev Inv-loop : tie.InvT-loop
 Inv-loop sheet caps seats windows rooms₀ holders₀ seat₀ rooms holders seat =
     Filled (λ k set. (w : ℕ) → In w set ↔ HasRoom sheet caps windows k w) 0 32 seats rooms₀ seat rooms
-    × ((length holders ≡ 24) × Held sheet windows seat holders)
+    × ((length holders ≡ 24) × HoldersOf sheet windows seat holders)
 
 abbrev μ-loop : tie.MeasureT-loop
 μ-loop sheet caps seats windows rooms₀ holders₀ seat₀ rooms holders seat = seats - seat

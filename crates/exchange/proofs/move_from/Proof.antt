@@ -20,7 +20,7 @@ first-meeting-requires c κs =
     let start = c .before .before .before .before .before in
     let long : length (start .args .graph .rooms) ≡ 32 = search needs in
     let gives = start .pre .1 in
-    (omega arith, (gives .0, gives-meets (start .args .graph) _ _ _ (c .before .column .ensures) _ (gives .1 .0) (gives .1 .1)))
+    (omega arith, (gives .0, gives-meets (start .args .graph) _ _ (c .before .column .ensures) _ _ (gives .1 .0) (gives .1 .1)))
 
 -- who meets is a seat
 taker-small : (c : tie.After-first-meeting) → c .first-meeting .result < 32
@@ -43,11 +43,12 @@ lowest-requires c κs =
 returns : tie.Need-returns
 returns c =
     let meeting = c .before .before in
-    let both = c .before .intersect .ensures in
+    let graph = meeting .before .before .before .before .before .before .args .graph in
+    let held = meeting .before .before .column .ensures in
     record {
       giver-is = refl;
       taker-in = meeting .first-meeting .ensures .member;
-      shown = meets-leads (meeting .before .before .before .before .before .before .args .graph) 0 _ _ (meeting .before .before .column .ensures) _ _ _ both (c .lowest .ensures .here);
+      shown = meets-leads graph _ _ held _ _ _ (c .before .intersect .ensures) (c .lowest .ensures .here);
     }
 
 pub move-from-spec : {M : Type 1} → statement M

@@ -22,16 +22,12 @@ loop-again : tie.Need-loop-again Inv-loop μ-loop
 loop-again c =
     let at = c .before .before .loop in
     let a = c .before .before .before .args in
-    let inv = at .inv .1 .1 in
+    let long = at .inv .1 .0 in
+    let has = added-in (a .holders) (a .t2) (a .seat) (at .w) (at .all) (at .inv .1 .1) in
+    let has-not = added-out (a .holders) (a .t2) (a .seat) (at .w) (at .all) (at .inv .1 .1) in
     ⊎-elim
-    (λ t. rw (t .2) (
-      search needs,
-      (
-        simp length-set (at .inv .1 .0),
-        added-in (a .holders) (a .t2) (a .seat) (at .w) (at .all) inv _ (omega (arith, at .inv .1 .0)) (t .0 .taken) (t .1 .ensures),
-      ),
-    ))
-    (λ t. rw (t .1) (search needs, (at .inv .1 .0, added-out (a .holders) (a .t2) (a .seat) (at .w) (at .all) inv (λ p. omega (arith, p, t .0 .left)))))
+    (λ t. rw (t .2) (search needs, (simp length-set long, has _ (omega (arith, long)) (t .0 .taken) (t .1 .ensures))))
+    (λ t. rw (t .1) (search needs, (long, has-not (λ p. omega (arith, p, t .0 .left)))))
     (c .if1 .came)
 
 returns : tie.Need-returns Inv-loop μ-loop

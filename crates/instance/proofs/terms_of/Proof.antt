@@ -2,7 +2,6 @@
 use borrow.Author.Needs.{needs}
 use mathlib.Core.Path.{refl}
 use Prim.Native.Nat.{_-_}
-use native.Mathlib.Omega.{arith}
 use Rattle.lists.proofs.Arrays.{filled-first, filled-next, zeros-at}
 use Rattle.instance.proofs.Books.{Known, seats-most, class-ranged, ranged, told}
 use Rattle.instance.proofs.terms_of.Statement.{statement}

@@ -1,22 +1,16 @@
 -- `listing::put_day` meets its contract: what is in memory gives the listing of its book and sheet.
 use borrow.Author.Needs.{needs}
-use native.Mathlib.Omega.{arith}
 use Prim.Native.Nat.{_≤_}
-use Rattle.dayfile.proofs.Held.{seats-in, windows-in}
 use Rattle.sheet.specs.Sheets.{gridOf}
 use Rattle.marker.specs.Marking.{resultIn}
+use Rattle.dayfile.proofs.Used.{range-in}
 use Rattle.listing.proofs.Memory.{in-memory}
 use Rattle.listing.proofs.put_day.Statement.{statement}
 use Rattle.listing.proofs.put_day.Tie as tie
 
 -- the book's size
 size : (c : tie.Start) → (c .args .day .book .seats ≤ 32) × (c .args .day .book .windows ≤ 24)
-size c =
-    let d = c .args .day in
-    let fit = c .pre .0 .0 in (
-      omega (arith, seats-in (d .book) (gridOf (d .caps)), fit .seats-high),
-      omega (arith, windows-in (d .book) (gridOf (d .caps)), fit .windows-high),
-    )
+size c = let d = c .args .day in range-in (d .book) (gridOf (d .caps)) (c .pre .0 .0)
 
 put-listing-requires : tie.Need-put-listing-requires
 put-listing-requires c κs =

@@ -23,7 +23,8 @@ put-day-requires c κs =
     let read = mark .before .before in
     let said = result-told (mark .mark-reading .result) _ (n .numbers .ensures) (test .if1 .left) in
     let little = few _ _ _ (mark .mark-reading .result) refl (mark .mark-reading .ensures) _ said in
-    ((fits-here _ _ _ (mark .mark-reading .result) refl (mark .mark-reading .ensures) _ said _ (read .read .ensures), search needs), search (needs, little))
+    let fit = fits-here _ _ _ (mark .mark-reading .result) refl (mark .mark-reading .ensures) _ said _ (read .read .ensures) in
+    ((fit, search needs), search (needs, little))
 
 returns-2 : tie.Need-returns-2
 returns-2 c =

@@ -2,13 +2,12 @@
 use borrow.Author.Needs.{needs}
 use denote.Ref.{now}
 use Rattle.dayfile.proofs.Answers.{refuses, passes}
-use Rattle.dayfile.proofs.Readings.{read-check}
 use Rattle.marker.proofs.Files.{refused-marks, has-room, markable, marked-marks}
 use Rattle.marker.proofs.mark_reading.Statement.{statement}
 use Rattle.marker.proofs.mark_reading.Tie as tie
 
 check-file-requires : tie.Need-check-file-requires
-check-file-requires c κs = read-check _ _ (c .before .before .pre)
+check-file-requires c κs = c .before .before .pre
 
 returns : tie.Need-returns
 returns c = refused-marks _ _ _ _ (refuses (c .before .before .before .check-file .ensures) (c .before .number .given .1))

@@ -2,7 +2,8 @@
 use borrow.Author.Needs.{needs}
 use Prim.Native.Nat.{_<_}
 use native.Mathlib.Omega.{arith}
-use Rattle.marker.proofs.Memory.{in-range, shows, searchable, wasted-small, tells, waste-marked, full-marked}
+use Rattle.dayfile.proofs.Used.{range-in}
+use Rattle.marker.proofs.Memory.{shows, searchable, wasted-small, tells, waste-marked, full-marked}
 use Rattle.marker.proofs.mark_sheet.Statement.{statement}
 use Rattle.marker.proofs.mark_sheet.Tie as tie
 
@@ -37,7 +38,7 @@ pub mark-sheet-spec : {M : Type 1} → statement M
 mark-sheet-spec =
     tie.close
     (tie.spec
-    (λ c κs. in-range _ _ _ (c .before .pre .0))
+    (λ c κs. range-in _ _ (c .before .pre .0 .fit))
     (λ c. search needs)
     (λ c. omega (arith, small c))
     (λ c. omega (arith, small c))

@@ -1,8 +1,4 @@
 -- `output::of_plan` meets its contract: the planned file is there, or the line of its refusal.
-use mathlib.Core.Path.{_≡_}
-use native.Mathlib.Omega.{arith}
-use denote.Ref.{now}
-use lib.ListN.{length}
 use borrow.Author.Needs.{needs}
 use Rattle.output.proofs.Printed.{planned-fits, prints-planned, prints-refusal, printed-fits}
 use Rattle.output.proofs.of_plan.Statement.{statement}
@@ -11,10 +7,9 @@ use Rattle.output.proofs.of_plan.Tie as tie
 returns : tie.Need-returns
 returns c =
     let call = c .before .before .before in
-    let same : length (call .plan .last .1 .0) ≡ length (now (call .before .before .before .args .out)) = search needs in
     let told = c .before .planned .given .1 in (
       prints-planned _ _ _ _ _ (call .plan .ensures) told,
-      omega (arith, same, planned-fits _ _ _ _ (rw told at (call .plan .ensures))),
+      planned-fits _ _ _ _ (rw told at (call .plan .ensures)),
     )
 
 returns-2 : tie.Need-returns-2

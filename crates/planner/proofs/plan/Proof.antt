@@ -21,8 +21,10 @@ use Rattle.planner.proofs.plan.Tie as tie
 
 -- a day that fits is in the arrays' ranges
 sized : (d : Day) → Fit (dayBook d) → (d .book .seats ≤ 32) × (d .book .windows ≤ 24)
-sized d fit =
-    (omega (arith, seats-in (d .book) (gridOf (d .caps)), fit .seats-high), omega (arith, windows-in (d .book) (gridOf (d .caps)), fit .windows-high))
+sized d fit = (
+  omega (arith, seats-in (d .book) (gridOf (d .caps)), fit .seats-high),
+  omega (arith, windows-in (d .book) (gridOf (d .caps)), fit .windows-high),
+)
 
 returns : tie.Need-returns
 returns c = plan-refused _ _ _ _ (read-refused _ _ (c .before .before .before .read .ensures) (c .before .check .given .1))

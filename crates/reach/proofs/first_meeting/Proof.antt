@@ -5,7 +5,6 @@ use mathlib.Core.Logic.{⊎-elim}
 use native.Mathlib.Omega.{arith}
 use borrow.Author.Count.{below-more}
 use lib.ListN.{length}
-use Rattle.masks.proofs.Laws.{in-pos}
 use Rattle.reach.specs.Graphs.{Meets}
 use Rattle.reach.proofs.Members.{has-in, has-out, at-small, meeting, not-meeting}
 use Rattle.reach.proofs.first_meeting.Statement.{statement}

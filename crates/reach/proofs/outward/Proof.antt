@@ -1,12 +1,10 @@
 -- `reach::outward` meets its contract.
 use borrow.Author.Needs.{needs}
 use mathlib.Core.Path.{_≡_}
-use Prim.Native.Nat.{ℕ}
 use native.Mathlib.Omega.{arith}
 use lib.ListN.{length}
 use mir.Val.{Fits}
 use mir.Syntax.{w32}
-use Rattle.masks.specs.Sets.{In}
 use Rattle.masks.proofs.Laws.{bit-lt, in-small}
 use Rattle.reach.proofs.Waves.{grown, spread}
 use Rattle.reach.proofs.outward.Statement.{statement}

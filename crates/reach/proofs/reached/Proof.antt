@@ -1,8 +1,6 @@
 -- `reach::reached` meets its contract.
 use borrow.Author.Needs.{needs}
-use mathlib.Core.Path.{_≡_}
 use Prim.Native.Nat.{ℕ, _+_}
-use lib.ListN.{length}
 use Rattle.reach.specs.Graphs.{Spread}
 use Rattle.reach.proofs.Waves.{last, ahead, ahead-less}
 use Rattle.reach.proofs.reached.Statement.{statement}

@@ -8,7 +8,8 @@ use Rattle.writer.proofs.write.Tie as tie
 
 returns : tie.Need-returns
 returns c =
-    let k = c .before .before .before in early (k .before .before .args .day) _ (refuses (k .check-day .ensures) (c .before .number .given .1))
+    let k = c .before .before .before in
+    early (k .before .before .args .day) _ (refuses (k .check-day .ensures) (c .before .number .given .1))
 
 file-length-requires : tie.Need-file-length-requires
 file-length-requires c κs =
@@ -20,7 +21,8 @@ returns-2 c =
     let t = l .before in
     let k = t .before .before in
     let d = k .before .before .args .day in
-    no-room d _ (passes (k .check-day .ensures) (t .enum-told .given .1)) (l .file-length .ensures d (record { book-is = refl; sheet-is = refl })) (omega arith)
+    let e = l .file-length .ensures d (record { book-is = refl; sheet-is = refl }) in
+    no-room d _ (passes (k .check-day .ensures) (t .enum-told .given .1)) e (omega arith)
 
 put-file-requires : tie.Need-put-file-requires
 put-file-requires c κs =
@@ -45,13 +47,5 @@ returns-3 c =
 pub write-spec : {M : Type 1} → statement M
 write-spec =
     tie.close
-    (tie.spec
-    (λ c κs. search needs)
-    (λ c. search needs)
-    returns
-    (λ c. search needs)
-    file-length-requires
-    returns-2
-    put-file-requires
-    (λ c. search needs)
-    returns-3)
+    (tie.spec (λ c κs. search needs) (λ c. search needs) returns (λ c. search needs) file-length-requires returns-2 put-file-requires
+    (λ c. search needs) returns-3)

@@ -1,34 +1,68 @@
--- `sheet::Sheet::placed` meets its contract. Each turn adds one seat's cell.
+-- `sheet::Sheet::placed` meets its contract. Each turn adds one seat's cells.
 use borrow.Author.Needs.{needs}
-use Prim.Native.Nat.{_-_, _<_}
+use Prim.Native.Nat.{ℕ, _-_, _≤_, _<_, zero-le}
+use mathlib.Core.Path.{_≡_, sym, _∙_}
+use native.Mathlib.Numerals.{add-one}
 use native.Mathlib.Omega.{arith}
+use lib.ListN.{getD}
+use Rattle.fairness.specs.Sums.{sum}
+use Rattle.fairness.proofs.Sums.{sum-zero, sum-suc}
+use Rattle.lists.proofs.Arrays.{zeros-at}
 use Rattle.sheet.specs.Sheets.{credit}
-use Rattle.sheet.proofs.Sums.{Summed, first, next, last}
+use Rattle.sheet.proofs.Sums.{sum-bound}
 use Rattle.sheet.proofs.Shapes.{credit-small}
 use Rattle.sheet.proofs.Sheet.placed.Statement.{statement}
 use Rattle.sheet.proofs.Sheet.placed.Tie as tie
 
 abbrev Inv-loop : tie.InvT-loop
-Inv-loop window seats self total₀ i₀ total i = Summed (λ k. credit self k window) seats i total
+Inv-loop seats windows self sums₀ i₀ sums i = (i ≤ seats) × ((j : ℕ) → j < windows → getD sums j 0 ≡ sum i (λ k. credit self k j))
 
 abbrev μ-loop : tie.MeasureT-loop
-μ-loop window seats self total₀ i₀ total i = seats - i
+μ-loop seats windows self sums₀ i₀ sums i = seats - i
 
--- the cell that a turn reads
-small : (c : tie.After-total Inv-loop μ-loop)
-    → let b = c .before .before .before .before in
-    credit (b .args .t1) (c .before .before .before .loop .i) (b .args .window) < 65536
-small c =
-    let b = c .before .before .before .before in
-    credit-small (b .args .t1) _ (b .good .0) (c .before .before .before .loop .i) (b .args .window)
+loop-holds : tie.Need-loop-holds Inv-loop μ-loop
+loop-holds c = (zero-le, λ j l. zeros-at 24 j ∙ sym (sum-zero _))
+
+add-row-requires : tie.Need-add-row-requires Inv-loop μ-loop
+add-row-requires c κs =
+    let test = c .before .before in
+    let l = test .before .loop in
+    let start = test .before .before in
+    let few : l .i < 32 = omega (arith, test .loop-test .taken, start .pre .0) in (
+      start .pre .1,
+      λ j h.
+          let small = sum-bound 65535 (l .i) (λ k. credit (start .args .t1) k j) (λ k b.
+          omega (arith, credit-small (start .args .t1) _ (start .good .0) k j)) in
+          omega (arith, l .inv .1 j h, small),
+    )
 
 loop-again : tie.Need-loop-again Inv-loop μ-loop
-loop-again c = let l = c .before .before .before .loop in next _ _ (l .i) (l .total) (l .inv) (search needs) (small c)
+loop-again c =
+    let l = c .before .before .before .before .loop in
+    let self = c .before .before .before .before .before .args .t1 in (
+      search needs,
+      λ j h.
+          let more = sum-suc (l .i) (λ k. credit self k j) in
+          rw (add-one (l .i)) (omega (arith, c .add-row .ensures j h, l .inv .1 j h, more)),
+    )
 
 returns : tie.Need-returns Inv-loop μ-loop
-returns c = let l = c .before .loop in last _ _ (l .i) (l .total) (l .inv) (search needs)
+returns c j h =
+    let l = c .before .loop in
+    let e : l .i ≡ c .before .before .args .seats = omega (arith, l .inv .0, c .loop-test .left) in
+    rw (← e) (l .inv .1 j h)
 
 pub placed-spec : {M : Type 1} → statement M
 placed-spec =
-    tie.close (tie.spec Inv-loop μ-loop (λ c. first _ _) (λ c. search needs) (λ c. search needs) (λ c. search needs) (λ c. search needs)
-    (λ c. omega (arith, small c)) (λ c. omega (arith, small c)) (λ c. search needs) (λ c. search needs) loop-again returns)
+    tie.close
+    (tie.spec
+    Inv-loop
+    μ-loop
+    loop-holds
+    (λ c. search needs)
+    (λ c. search needs)
+    add-row-requires
+    (λ c. search needs)
+    (λ c. search needs)
+    loop-again
+    returns)

@@ -3,6 +3,7 @@ use Prim.Native.Nat.{_-_}
 use Rattle.writer.specs.Stores.{size}
 use Rattle.writer.proofs.Slots.{Totalled, total-first, total-next, total-under, total-end}
 use borrow.Author.Needs.{needs}
+use Rattle.dayfile.specs.Table.{known}
 use Rattle.writer.proofs.contents.count_fields.Statement.{statement}
 use Rattle.writer.proofs.contents.count_fields.Tie as tie
 
@@ -10,7 +11,7 @@ abbrev Inv-loop : tie.InvT-loop
 Inv-loop slots n₀ i₀ n i = Totalled size slots n i
 
 abbrev μ-loop : tie.MeasureT-loop
-μ-loop slots n₀ i₀ n i = 4 - i
+μ-loop slots n₀ i₀ n i = known - i
 
 loop-holds : tie.Need-loop-holds Inv-loop μ-loop
 loop-holds c = total-first
@@ -30,15 +31,5 @@ returns c = let l = c .before in total-end (l .loop .inv) (omega (arith, l .befo
 pub count-fields-spec : {M : Type 1} → statement M
 count-fields-spec =
     tie.close
-    (tie.spec
-    Inv-loop
-    μ-loop
-    loop-holds
-    (λ c. search needs)
-    (λ c. search needs)
-    (λ c κs. search needs)
-    add-n
-    (λ c. search needs)
-    (λ c. search needs)
-    loop-again
-    returns)
+    (tie.spec Inv-loop μ-loop loop-holds (λ c. search needs) (λ c. search needs) (λ c κs. search needs) add-n (λ c. search needs)
+    (λ c. search needs) loop-again returns)

@@ -32,24 +32,31 @@ few : (i m : ℕ) → i ≤ 32 → m ≤ 24 → i * m ≤ 768
 few i m h k = mul-le-mul h k
 
 mul-outside-in : tie.Need-mul-outside-in Inv-loop μ-loop
-mul-outside-in c = let l = c .before .before .before .before in let a = l .before .args in let q = few (l .loop .i) (a .m) (omega (arith, l .before .pre)) (omega (arith, l .before .pre)) in record { fits = omega arith }
+mul-outside-in c =
+    let l = c .before .before .before .before in
+    let q = few (l .loop .i) (l .before .args .m) (omega arith) (omega arith) in record { fits = omega arith }
 
 mul-outside-in-2 : tie.Need-mul-outside-in-2 Inv-loop μ-loop
-mul-outside-in-2 c = let l = c .before .before .before .before in let a = l .before .args in let q = few (l .loop .i) (a .m) (omega (arith, l .before .pre)) (omega (arith, l .before .pre)) in record { fits = omega arith }
+mul-outside-in-2 c =
+    let l = c .before .before .before .before in
+    let q = few (l .loop .i) (l .before .args .m) (omega arith) (omega arith) in record { fits = omega arith }
 
 add-outside-in : tie.Need-add-outside-in Inv-loop μ-loop
 add-outside-in c =
-    let l = c .before .before .before .before in let a = l .before .args in let q = few (l .loop .i) (a .m) (omega (arith, l .before .pre)) (omega (arith, l .before .pre)) in record { fits = omega (arith, l .before .pre) }
+    let l = c .before .before .before .before in
+    let q = few (l .loop .i) (l .before .args .m) (omega arith) (omega arith) in record { fits = omega arith }
 
 outside-in-requires : tie.Need-outside-in-requires Inv-loop μ-loop
-outside-in-requires c κs = let l = c .before .before .before .before in let a = l .before .args in let q = few (l .loop .i) (a .m) (omega (arith, l .before .pre)) (omega (arith, l .before .pre)) in omega (arith, l .before .pre)
+outside-in-requires c κs =
+    let l = c .before .before .before .before in let q = few (l .loop .i) (l .before .args .m) (omega arith) (omega arith) in omega arith
 
 returns : tie.Need-returns Inv-loop μ-loop
 returns c =
     let o = c .before .before .before in
-    let l = c .before .before .before .before .before .before .before .before in
+    let t = o .before .before .before .before in
+    let l = t .before in
     let a = l .before .args in
-    sym (rows-found 0 (a .high) (a .at) (a .m) (gridOf (a .t1)) (l .loop .i) (a .n) _ (c .before .before .before .before .before .before .before .loop-test .taken) (l .loop .inv .1)
+    sym (rows-found 0 (a .high) (a .at) (a .m) (gridOf (a .t1)) (l .loop .i) (a .n) _ (t .loop-test .taken) (l .loop .inv .1)
     (at-line (o .outside-in .ensures ∙ row-of 0 (a .high) (a .at) (a .m) (a .t1) (l .loop .i)) (c .before .p .given .1)))
 
 loop-again : tie.Need-loop-again Inv-loop μ-loop
@@ -71,21 +78,6 @@ returns-2 c =
 pub above-in-spec : {M : Type 1} → statement M
 above-in-spec =
     tie.close
-    (tie.spec
-    Inv-loop
-    μ-loop
-    loop-holds
-    (λ c. search needs)
-    (λ c. search needs)
-    slice-aggregate-outside-in
-    mul-outside-in
-    mul-outside-in-2
-    add-outside-in
-    outside-in-requires
-    (λ c. search needs)
-    returns
-    (λ c. search needs)
-    (λ c. search needs)
-    (λ c. search needs)
-    loop-again
-    returns-2)
+    (tie.spec Inv-loop μ-loop loop-holds (λ c. search needs) (λ c. search needs) slice-aggregate-outside-in mul-outside-in
+    mul-outside-in-2 add-outside-in outside-in-requires (λ c. search needs) returns (λ c. search needs) (λ c. search needs)
+    (λ c. search needs) loop-again returns-2)

@@ -1,8 +1,6 @@
-use mathlib.Core.Path.{refl, sym, _∙_, ap}
-use Prim.Native.Nat.{ℕ, _+_, _*_}
+use mathlib.Core.Path.{refl, sym, _∙_}
 use native.Mathlib.Omega.{arith}
 use Rattle.dayfile.proofs.Answers.{refuses, passes}
-use Rattle.writer.specs.Stores.{entries}
 use Rattle.writer.proofs.Checks.{counts-pass, stop-counts, stop-values, go-on}
 use borrow.Author.Needs.{needs}
 use Rattle.writer.proofs.lines.check_day.Statement.{statement}
@@ -14,57 +12,47 @@ returns c =
     let d = k .before .before .args .day in
     sym (stop-counts d (refuses (k .check-counts .ensures d refl) (c .before .number .given .1)))
 
-slots-of-requires : tie.Need-slots-of-requires
-slots-of-requires c κs =
+first-body-requires : tie.Need-first-body-requires
+first-body-requires c κs =
     let k = c .before .before in
     let d = k .before .before .args .day in counts-pass d (passes (k .check-counts .ensures d refl) (c .enum-told .given .1))
 
 check-values-requires : tie.Need-check-values-requires
 check-values-requires c κs =
-    let t = c .before .before in
+    let t = c .before in
     let k = t .before .before in
     let d = k .before .before .args .day in
     let p = counts-pass d (passes (k .check-counts .ensures d refl) (t .enum-told .given .1)) in
-    (p .0, p .1, omega (arith, c .count-entries .ensures .1))
+    (p .0, p .1, omega (arith, c .first-body .ensures .1))
 
 returns-2 : tie.Need-returns-2
 returns-2 c =
     let v = c .before .before .before in
-    let n = v .before in
-    let t = n .before .before in
+    let t = v .before .before in
     let k = t .before .before in
     let d = k .before .before .args .day in
-    let at = ap (λ (i : ℕ). 2 + 6 * i) (n .count-entries .ensures .0 ∙ ap entries (n .before .slots-of .ensures)) in
+    let at = v .before .first-body .ensures .0 in
     sym (stop-values d (passes (k .check-counts .ensures d refl) (t .enum-told .given .1))
     (refuses (v .check-values .ensures d refl refl at) (c .before .number2 .given .1)))
+
+check-options-requires : tie.Need-check-options-requires
+check-options-requires c κs =
+    let t = c .before .before .before .before in
+    let k = t .before .before in
+    let d = k .before .before .args .day in counts-pass d (passes (k .check-counts .ensures d refl) (t .enum-told .given .1))
 
 returns-3 : tie.Need-returns-3
 returns-3 c =
     let v = c .before .before .before in
-    let n = v .before in
-    let t = n .before .before in
+    let t = v .before .before in
     let k = t .before .before in
     let d = k .before .before .args .day in
-    let at = ap (λ (i : ℕ). 2 + 6 * i) (n .count-entries .ensures .0 ∙ ap entries (n .before .slots-of .ensures)) in
     c .check-options .ensures d (record { book-is = refl; sheet-is = refl })
     ∙ sym (go-on d (passes (k .check-counts .ensures d refl) (t .enum-told .given .1))
-    (passes (v .check-values .ensures d refl refl at) (c .before .enum-told2 .given .1)))
+    (passes (v .check-values .ensures d refl refl (v .before .first-body .ensures .0)) (c .before .enum-told2 .given .1)))
 
 pub check-day-spec : {M : Type 1} → statement M
 check-day-spec =
     tie.close
-    (tie.spec
-    (λ c κs. search needs)
-    (λ c. search needs)
-    returns
-    (λ c. search needs)
-    slots-of-requires
-    (λ c κs. search needs)
-    (λ c. search needs)
-    (λ c. search needs)
-    check-values-requires
-    (λ c. search needs)
-    returns-2
-    (λ c. search needs)
-    (λ c κs. search needs)
-    returns-3)
+    (tie.spec (λ c κs. search needs) (λ c. search needs) returns (λ c. search needs) first-body-requires check-values-requires
+    (λ c. search needs) returns-2 (λ c. search needs) check-options-requires returns-3)

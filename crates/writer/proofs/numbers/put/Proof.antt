@@ -5,8 +5,8 @@ use native.Mathlib.Omega.{arith}
 use lib.ListN.{length-set, set}
 use borrow.Author.Needs.{needs}
 use denote.Ref.{now}
+use Rattle.lists.specs.Buffers.{putAt}
 use Rattle.dayfile.specs.File.{bytesOf}
-use Rattle.writer.specs.Stores.{stored}
 use Rattle.writer.proofs.numbers.put.Statement.{statement}
 use Rattle.writer.proofs.numbers.put.Tie as tie
 
@@ -14,23 +14,18 @@ slice-write-buf-2 : tie.Need-slice-write-buf-2
 slice-write-buf-2 c = simp length-set (omega arith)
 
 returns : tie.Need-returns
-unfolding stored bytesOf
+unfolding putAt bytesOf
 returns c =
     let a = c .args in
     record {
-      behind = refl;
-      holds = ap (λ (k : ℕ). set (set (now (a .buf)) (a .at) (a .x % 256)) k (a .x / 256)) (add-one (a .at));
+      bytes = record {
+        buffer = ap (λ (k : ℕ). set (set (now (a .buf)) (a .at) (a .x % 256)) k (a .x / 256)) (add-one (a .at));
+        place = refl;
+      };
     }
 
 pub put-spec : {M : Type 1} → statement M
 put-spec =
     tie.close
-    (tie.spec
-    (λ c. search needs)
-    (λ c. search needs)
-    (λ c. search needs)
-    (λ c. search needs)
-    slice-write-buf-2
-    (λ c. search needs)
-    (λ c. search needs)
-    returns)
+    (tie.spec (λ c. search needs) (λ c. search needs) (λ c. search needs) (λ c. search needs) slice-write-buf-2 (λ c. search needs)
+    (λ c. search needs) returns)

@@ -5,7 +5,7 @@ use borrow.Author.Needs.{needs}
 use denote.Ref.{now}
 use Rattle.dayfile.specs.Memory.{sized}
 use Rattle.writer.specs.Stores.{Put}
-use Rattle.writer.proofs.Storing.{put-as, put-long, list-none, list-more, list-end}
+use Rattle.writer.proofs.Storing.{put-as, put-long, list-none, list-more, list-room}
 use Rattle.writer.proofs.numbers.put_all.Statement.{statement}
 use Rattle.writer.proofs.numbers.put_all.Tie as tie
 
@@ -20,9 +20,9 @@ loop-holds c = (zero-le, list-none _ _ _)
 
 put-requires : tie.Need-put-requires Inv-loop μ-loop
 put-requires c κs =
-    let l = c .before .before .before in
-    let e = list-end (now (l .before .before .before .args .src)) (l .loop .i) (l .loop .inv .1) in
-    let k = put-long (l .loop .inv .1) in (omega arith, c .number .ensures .1)
+    let t = c .before .before in
+    let l = t .before in
+    (list-room _ (l .loop .i) (l .before .before .before .pre) (t .loop-test .taken) (l .loop .inv .1), c .number .ensures .1)
 
 loop-again : tie.Need-loop-again Inv-loop μ-loop
 loop-again c =
@@ -41,14 +41,5 @@ returns c =
 pub put-all-spec : {M : Type 1} → statement M
 put-all-spec =
     tie.close
-    (tie.spec
-    Inv-loop
-    μ-loop
-    loop-holds
-    (λ c κs. search needs)
-    put-requires
-    (λ c. search needs)
-    (λ c. search needs)
-    loop-again
-    same-length
-    returns)
+    (tie.spec Inv-loop μ-loop loop-holds (λ c κs. search needs) put-requires (λ c. search needs) (λ c. search needs) loop-again
+    same-length returns)

@@ -1,13 +1,12 @@
 use Rattle.sheet.proofs.Shapes.{shaped}
 use mathlib.Core.Path.{sym, ap}
 use Prim.Native.Nat.{ℕ, _-_, _≤_, zero-le}
-use native.Mathlib.Nat.{mul-le-mul-right}
 use native.Mathlib.Omega.{arith}
 use Rattle.sheet.specs.Sheets.{gridOf}
 use Rattle.dayfile.specs.File.{flat}
 use Rattle.dayfile.specs.Memory.{sizedGrid}
 use Rattle.writer.specs.Stores.{Put}
-use Rattle.writer.proofs.Storing.{put-as, put-long, row-long, grid-none, grid-more, grid-end}
+use Rattle.writer.proofs.Storing.{put-as, put-long, row-long, grid-none, grid-more, grid-room}
 use borrow.Author.Needs.{needs}
 use Rattle.writer.proofs.numbers.put_rows.Statement.{statement}
 use Rattle.writer.proofs.numbers.put_rows.Tie as tie
@@ -29,11 +28,8 @@ slice-aggregate-put-all c =
 
 put-all-requires : tie.Need-put-all-requires Inv-loop μ-loop
 put-all-requires c κs =
-    let l = c .before .before .before .before .before in
-    let a = l .before .before .args in
-    let e = grid-end (a .m) (gridOf (a .t3)) (l .loop .i) (l .loop .inv .1) in
-    let k = put-long (l .loop .inv .1) in
-    let q = mul-le-mul-right (a .m) (c .before .before .before .before .loop-test .taken) in omega (arith, l .before .before .pre)
+    let t = c .before .before .before .before in
+    let l = t .before in grid-room _ _ (l .loop .i) _ (l .before .before .pre .1) (t .loop-test .taken) (l .loop .inv .1)
 
 loop-again : tie.Need-loop-again Inv-loop μ-loop
 loop-again c =
@@ -53,16 +49,5 @@ returns c =
 pub put-rows-spec : {M : Type 1} → statement M
 put-rows-spec =
     tie.close
-    (tie.spec
-    Inv-loop
-    μ-loop
-    loop-holds
-    (λ c. search needs)
-    (λ c. search needs)
-    slice-aggregate-put-all
-    put-all-requires
-    (λ c. search needs)
-    (λ c. search needs)
-    loop-again
-    same-length
-    returns)
+    (tie.spec Inv-loop μ-loop loop-holds (λ c. search needs) (λ c. search needs) slice-aggregate-put-all put-all-requires
+    (λ c. search needs) (λ c. search needs) loop-again same-length returns)
