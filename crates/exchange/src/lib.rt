@@ -196,7 +196,8 @@ fn first_pair(kind: Kind, scores: Scores, graph: Graph, seats: usize) -> Pair
     match reach::first_receiver(graph, wants, seats) {
         Receiver::Nobody => Pair::Nobody,
         Receiver::Seat(g) => {
-            let donors = masks::intersect(wants[g], reach::reached(graph, g));
+            let wanted = wants[g];
+            let donors = masks::intersect(wanted, reach::reached(graph, g));
             Pair::Between {
                 receiver: g,
                 donor: masks::lowest(donors),

@@ -10,14 +10,14 @@ first-receiver-requires c κs =
     let a = c .before .args in
     (search needs, apart (a .kind) (a .scores) (a .graph) (a .seats) (c .wanted-donors .result) (c .wanted-donors .ensures))
 
-mul-intersect : tie.Need-mul-intersect
-mul-intersect c =
+mul-wanted : tie.Need-mul-wanted
+mul-wanted c =
     let f = rw (c .before .g .given .1) at (c .before .before .before .first-receiver .ensures) in
     let small = f .seat in
     search needs
 
-array-read-intersect : tie.Need-array-read-intersect
-array-read-intersect c =
+array-read-wanted : tie.Need-array-read-wanted
+array-read-wanted c =
     let f = rw (c .before .g .given .1) at (c .before .before .before .first-receiver .ensures) in
     let small = f .seat in
     search needs
@@ -56,5 +56,5 @@ returns-2 c =
 
 pub first-pair-spec : {M : Type 1} → statement M
 first-pair-spec =
-    tie.close (tie.spec (λ c κs. search needs) first-receiver-requires (λ c. search needs) (λ c. search needs) mul-intersect
-    array-read-intersect reached-requires (λ c κs. search needs) lowest-requires returns returns-2)
+    tie.close (tie.spec (λ c κs. search needs) first-receiver-requires (λ c. search needs) (λ c. search needs) mul-wanted
+    array-read-wanted reached-requires (λ c κs. search needs) lowest-requires returns returns-2)
