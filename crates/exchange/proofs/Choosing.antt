@@ -3,18 +3,21 @@ use mathlib.Core.Path.{_≡_, refl, sym, ap, _∙_}
 use mathlib.Core.Bool.{true, false, true≢false}
 use mathlib.Core.Logic.{_↔_}
 use mathlib.Core.List.{List, [], _∷_}
-use Prim.Native.Nat.{ℕ, min, _<_, _≤_}
+use Prim.Native.Nat.{ℕ, _+_, min, _<_, _≤_}
 use native.Mathlib.Decide.{decLt}
 use native.Mathlib.Omega.{arith}
-use lib.ListN.{length}
+use lib.ListN.{length, getD}
+use Rattle.fairness.specs.Sums.{sum}
 use Rattle.fairness.specs.Instance.{Instance, Sheet}
 use Rattle.fairness.specs.Exchange.{Move, Path, Exchange, improvesAt, tiesAt}
 use Rattle.fairness.proofs.Theorems.{path-within, improves-apart, ties-apart}
 use Rattle.model.proofs.Tests.{not-true}
-use Rattle.masks.specs.Sets.{bit, In}
-use Rattle.masks.proofs.Laws.{bit-lt, bit-zero}
+use Rattle.masks.specs.Sets.{bit, In, Lowest}
+use Rattle.masks.proofs.Laws.{bit-lt, in-pos}
 use Rattle.reach.specs.declared.Graph.{Graph}
-use Rattle.reach.specs.Graphs.{Reached}
+use Rattle.reach.specs.declared.Receiver.the-variants.{Nobody}
+use Rattle.reach.specs.Graphs.{setAt, Rows, Reached, Finds, First, Receives, Apart}
+use Rattle.reach.proofs.Members.{out-zero}
 use Rattle.exchange.specs.declared.ExchangePath.{ExchangePath}
 use Rattle.exchange.specs.declared.Scores.{Scores}
 use Rattle.exchange.specs.declared.Kind.{Kind}
@@ -24,32 +27,13 @@ use Rattle.exchange.specs.Tests.{testOf, testBy, scoreAt, Scored, Wants}
 use Rattle.exchange.specs.Steps.{Drawn, Donor, FirstPair, Nearest}
 use Rattle.exchange.proofs.Bridge.{within-reach, reach-seat}
 
+-- ---- the tests
+
 -- no seat wants itself
 pub test-apart : (kind : Kind) (I : Instance) (S : Sheet) (g : ℕ) → testOf kind I S g g ≡ true → ⊥
 test-apart None I S g e = true≢false (sym e)
 test-apart Improving I S g e = improves-apart I S g e
 test-apart WronglyTied I S g e = ties-apart I S g e
-
--- ---- the donors of a receiver, as sets
-
-module _ (kind : Kind) (scores : Scores) (graph : Graph) (seats g wanted reached both : ℕ)
-    (wants : (l : ℕ) → In l wanted ↔ Wants kind scores seats g l) where
-  -- nobody is wanted
-  pub none-wanted : wanted ≡ 0 → (l : ℕ) → Donor kind scores graph seats g l → ⊥
-  none-wanted z l d = omega (arith, rw z at (wants l .1 (d .1)), bit-zero l)
-
-  module _ (reaches : (l : ℕ) → In l reached ↔ Reached graph g l) (shared : (l : ℕ) → bit both l ≡ min (bit wanted l) (bit reached l)) where
-    pub donor-in : (l : ℕ) → Donor kind scores graph seats g l → In l both
-    donor-in l d = omega (arith, shared l, wants l .1 (d .1), reaches l .1 (d .0))
-
-    pub in-donor : (l : ℕ) → In l both → Donor kind scores graph seats g l
-    in-donor l p = (reaches l .0 (omega (arith, shared l, bit-lt reached l)), wants l .0 (omega (arith, shared l, bit-lt wanted l)))
-
-    -- nobody who is reached is wanted
-    pub none-shared : both ≡ 0 → (l : ℕ) → Donor kind scores graph seats g l → ⊥
-    none-shared z l d = omega (arith, rw z at (donor-in l d), bit-zero l)
-
--- ---- scores and paths of an instance
 
 module _ (I : Instance) (S : Sheet) (scores : Scores) (s : Scored I S scores) where
   -- scores are those of the instance
@@ -62,19 +46,74 @@ module _ (I : Instance) (S : Sheet) (scores : Scores) (s : Scored I S scores) wh
   test-same WronglyTied g l a b =
       rw (s .heights-are g a, s .weights-are g a, s .positions-are g a, s .heights-are l b, s .weights-are l b, s .positions-are l b) refl
 
+-- ---- the donors of each receiver, as sets
+
+-- scores are those of some instance, so no seat wants itself
+self-unwanted : (kind : Kind) (scores : Scores) (g : ℕ) → testBy kind (scoreAt scores g) (scoreAt scores g) ≡ true → ⊥
+unfolding sum
+self-unwanted kind scores g e =
+    let I : Instance = record {
+      seats = g + 1;
+      windows = 0;
+      cap = λ i w. 0;
+      supply = λ w. 0;
+      weight = λ i. getD (scores .weights) i 0;
+      base = λ i. getD (scores .heights) i 0;
+      position = λ i. getD (scores .positions) i 0;
+    } in
+    let scored : Scored I (λ i w. 0) scores = record {
+      heights-are = λ i h. omega arith;
+      weights-are = λ i h. refl;
+      positions-are = λ i h. refl;
+    } in
+    test-apart kind I (λ i w. 0) g (test-same I (λ i w. 0) scores scored kind g g (omega arith) (omega arith) ∙ e)
+
+module _ (kind : Kind) (scores : Scores) (graph : Graph) (seats : ℕ) (wants : List ℕ) (rows : Rows seats (Wants kind scores seats) wants) where
+  pub apart : Apart wants
+  apart g = out-zero (setAt wants g) g (λ p. self-unwanted kind scores g (rows g g .0 p .1 .1))
+
+  finds : (g l : ℕ) → g < seats → Donor kind scores graph seats g l → Finds graph wants g l
+  finds g l h d = (d .0, rows g l .1 (h, d .1))
+
+  pub no-pair : Receives graph wants seats Nobody → (g l : ℕ) → g < seats → Donor kind scores graph seats g l → ⊥
+  no-pair none g l h d = none g l h (finds g l h d)
+
+  module _ (g reached both : ℕ) (f : First graph wants seats g) (reaches : (l : ℕ) → In l reached ↔ Reached graph g l)
+      (shared : (l : ℕ) → bit both l ≡ min (bit (setAt wants g) l) (bit reached l)) where
+    in-both : (l : ℕ) → Finds graph wants g l → In l both
+    in-both l p = omega (arith, shared l, p .1, reaches l .1 (p .0))
+
+    pub some-donor : 0 < both
+    some-donor = in-pos both (f .donor) (in-both (f .donor) (f .finds))
+
+    pub first-pair : (l : ℕ) → Lowest both l → FirstPair kind scores graph seats g l
+    first-pair l low =
+        let here = low .here in
+        let wanted : In l (setAt wants g) = omega (arith, shared l, bit-lt (setAt wants g) l) in
+        let in-reached : In l reached = omega (arith, shared l, bit-lt reached l) in
+        record {
+          seat = f .seat;
+          donor = (reaches l .0 in-reached, rows g l .0 wanted .1);
+          lowest = λ k h d. omega (arith, low .least k h, in-both k (finds g k (f .seat) d));
+          earlier = λ h k b d. f .earlier h k b (finds h k (omega (arith, f .seat)) d);
+        }
+
+-- ---- from scores and paths in memory to those of an instance
+
+module _ (I : Instance) (S : Sheet) (scores : Scores) (s : Scored I S scores) where
   module _ (kind : Kind) (graph : Graph) (d : Drawn I S graph) (seats : ℕ) (n : I .seats ≡ seats) where
     -- a path to a donor that is wanted
     donor-of : (g l : ℕ) (ms : List Move) → g < seats → Path I S g l ms → testOf kind I S g l ≡ true → Donor kind scores graph seats g l
     donor-of g l ms h p t =
         let r = within-reach I S graph d (length ms) g l (path-within I S g l ms p) in
         let there = reach-seat I S graph d (length ms) g l (omega arith) r in
-        ((length ms, r), (omega (arith, there), sym (test-same kind g l (omega arith) there) ∙ t))
+        ((length ms, r), (omega (arith, there), sym (test-same I S scores s kind g l (omega arith) there) ∙ t))
 
     pub chosen : (g l : ℕ) (x : ExchangePath) → FirstPair kind scores graph seats g l → Nearest kind graph g l x
         → Chosen I S (testOf kind I S) g l (movesOf x)
     chosen g l x f nearest = record {
       seat = omega (arith, f .seat);
-      passes = test-same kind g l (omega (arith, f .seat)) (omega (arith, f .donor .1 .0)) ∙ f .donor .1 .1;
+      passes = test-same I S scores s kind g l (omega (arith, f .seat)) (omega (arith, f .donor .1 .0)) ∙ f .donor .1 .1;
       path = nearest .path I S d;
       least = λ ns p. go ns p (decLt (length ns) (x .count));
       lowest-donor = λ k ns h p. not-true _ (λ t. f .lowest k h (donor-of g k ns (f .seat) p t));

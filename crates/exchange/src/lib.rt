@@ -8,12 +8,13 @@ ghost use Rattle.model.specs.Book.{Grid};
 ghost use Rattle.sheet.specs.Sheets.{credit};
 ghost use Rattle.instance.specs.Terms.{instanceIn, Told, Shows, Ranged, Small};
 ghost use Rattle.masks.specs.Sets.{In};
-ghost use Rattle.reach.specs.Graphs.{setAt, Collects, Reached, Layers, Fewest};
+ghost use Rattle.reach.specs.Graphs.{setAt, Collects, Rows, Reached, Layers, Fewest};
 ghost use Rattle.exchange.specs.Paths.{movesOf, Writable, Answers};
 ghost use Rattle.exchange.specs.Tests.{testBy, Tested, Bounded, Scored, Wants};
 ghost use Rattle.exchange.specs.Steps.{Drawn, Firsts, Gives, GivesBy, Leading, Nearest};
 use instance::Terms;
 use reach::Graph;
+use reach::Receiver;
 use sheet::Caps;
 use sheet::Move;
 use sheet::Sheet;
@@ -174,24 +175,35 @@ fn wanted_by(kind: Kind, scores: Scores, seats: usize, g: usize) -> u32
     set
 }
 
+// For each receiver the donors that are wanted for it.
+fn wanted_donors(kind: Kind, scores: Scores, seats: usize) -> [u32; 32]
+    requires { ⌜ (seats ≤ 32) × Bounded seats scores ⌝ }
+    ensures { λ r. ⌜ Rows seats (Wants kind scores seats) r ⌝ }
+{
+    let mut wants = [0u32; 32];
+    for g in 0..seats {
+        wants[g] = wanted_by(kind, scores, seats, g);
+    }
+    wants
+}
+
 // The first receiver that reaches a donor which is wanted for it, and its lowest such donor.
 fn first_pair(kind: Kind, scores: Scores, graph: Graph, seats: usize) -> Pair
     requires { ⌜ (seats ≤ 32) × Bounded seats scores ⌝ }
     ensures { λ r. ⌜ Firsts kind scores graph seats r ⌝ }
 {
-    for g in 0..seats {
-        let wanted = wanted_by(kind, scores, seats, g);
-        if wanted != 0 {
+    let wants = wanted_donors(kind, scores, seats);
+    match reach::first_receiver(graph, wants, seats) {
+        Receiver::Nobody => Pair::Nobody,
+        Receiver::Seat(g) => {
+            let wanted = wants[g];
             let donors = masks::intersect(wanted, reach::reached(graph, g));
-            if donors != 0 {
-                return Pair::Between {
-                    receiver: g,
-                    donor: masks::lowest(donors),
-                };
+            Pair::Between {
+                receiver: g,
+                donor: masks::lowest(donors),
             }
         }
     }
-    Pair::Nobody
 }
 
 // A move by which a seat gives to a member of a set.

@@ -1,14 +1,14 @@
 -- What the machine's operations on 32 bits do to a set: what each function of the crate ensures.
 use mathlib.Core.Path.{_≡_, refl, ap, _∙_}
 use mathlib.Core.Logic.{_≢_}
-use Prim.Native.Nat.{ℕ, zero, suc, _-_, _*_, _/_, _%_, _^_, _<_, _≤_, min, max}
+use Prim.Native.Nat.{ℕ, zero, suc, _+_, _-_, _*_, _/_, _%_, _^_, _<_, _≤_, min, max}
 use native.Mathlib.Nat.{one-mul, mod-eq-of-lt, pow-suc, pow-succ', div-div-eq-div-mul}
 use native.Mathlib.Decide.{decLt}
 use native.Mathlib.Omega.{arith}
 use lib.Pow.{pow-lt, pow-pos, pow-mono, ones-lt}
 use lib.Bits.{bitAnd, bitOr, and-step, or-step, and-self}
-use lib.Count.{trailingZeros, under}
-use Rattle.masks.specs.Sets.{bit, In, Inserted, Removed, Lowest, Full}
+use lib.Count.{ones, ones-step, trailingZeros, under}
+use Rattle.masks.specs.Sets.{bit, In, countBelow, Inserted, Removed, Lowest, Full}
 use Rattle.masks.proofs.Laws.{bit-lt, bit-zero, bit-high, in-pos}
 
 -- ---- digit by digit
@@ -134,3 +134,14 @@ drop-lowest (suc l) m e f =
         → (k : ℕ) → k ≢ suc l → bit (bitAnd m (m - 1)) k ≡ bit m k
     others z q r zero d = omega (arith, and-step m (m - 1))
     others z q r (suc k) d = ap (λ (x : ℕ). bit x k) q ∙ r k (λ p. d (ap suc p))
+
+count-step : (n m : ℕ) → countBelow (suc n) m ≡ m % 2 + countBelow n (m / 2)
+unfolding bit countBelow
+count-step zero m = omega arith
+count-step (suc n) m = omega (arith, count-step n m)
+
+-- the machine's `count_ones`
+pub ones-count : (n m : ℕ) → m < 2 ^ n → ones m ≡ countBelow n m
+unfolding ones countBelow
+ones-count zero m h = let e : m ≡ 0 = omega arith in rw e refl
+ones-count (suc n) m h = omega (arith, ones-step m, ones-count n (m / 2) (omega (arith, pow-suc 2 n)), count-step n m)

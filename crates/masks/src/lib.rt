@@ -2,7 +2,7 @@
 ghost use mathlib.Core.Path.{_≡_};
 ghost use Prim.Native.Nat.{ℕ, _-_, _≤_, _<_, min, max};
 ghost use lib.Dec.{eqb};
-ghost use Rattle.masks.specs.Sets.{bit, Inserted, Removed, Lowest, Full};
+ghost use Rattle.masks.specs.Sets.{bit, sizeOf, Inserted, Removed, Lowest, Full};
 
 // Whether seat i is in the set.
 pub fn has(set: u32, i: usize) -> bool
@@ -69,4 +69,11 @@ pub fn remove_lowest(set: u32) -> u32
     ensures { λ r. ⌜ ((k : ℕ) → Lowest set k → Removed set k r) ⌝ }
 {
     set & (set - 1)
+}
+
+// How many seats are in the set.
+pub fn size(set: u32) -> u32
+    ensures { λ r. ⌜ r ≡ sizeOf set ⌝ }
+{
+    u32::count_ones(set)
 }

@@ -2,4 +2,5 @@
 pub mod Members
 pub mod Unions
 pub mod Waves
+pub mod Search
 pub mod Collect

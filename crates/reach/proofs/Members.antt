@@ -2,15 +2,15 @@
 use mathlib.Core.Path.{_≡_, sym, _∙_}
 use mathlib.Core.Bool.{Bool, true, false}
 use mathlib.Core.List.{List}
-use Prim.Native.Nat.{ℕ, _^_, _<_, _≤_, min}
+use Prim.Native.Nat.{ℕ, _^_, _<_, _≤_, min, max}
 use native.Mathlib.Decide.{ℕ-discrete, decLt}
 use native.Mathlib.Omega.{arith}
 use lib.Count.{trailingZeros}
 use lib.Dec.{eqb}
 use lib.ListN.{length, List·getD-eq-default}
 use borrow.Author.Tests.{eqb-true, eqb-false}
-use Rattle.masks.specs.Sets.{bit, In}
-use Rattle.masks.proofs.Laws.{bit-lt, bit-zero}
+use Rattle.masks.specs.Sets.{bit, In, Within, sizeOf}
+use Rattle.masks.proofs.Laws.{bit-lt, bit-zero, in-small, within-size, within-less}
 use Rattle.masks.proofs.Machine.{lowest-is}
 use Rattle.reach.specs.Graphs.{setAt, Meets}
 
@@ -34,6 +34,21 @@ at-small sets i l p =
           let z : length sets ≤ i = omega arith in
           absurd (omega (arith, rw (List·getD-eq-default sets 0 z) at p, bit-zero l))
     ]
+
+-- a set grows by what is not within it, and by nothing else: the count of members shows it
+module _ (set more both : ℕ) (fits : more < 2 ^ 32) (joined : (k : ℕ) → bit both k ≡ max (bit set k) (bit more k)) where
+  pub grown : sizeOf both ≤ sizeOf set → Within more set
+  grown h k =
+      elim (decLt (bit set k) (bit more k)) [
+        | yes l ↦ absurd (omega (arith, within-less set both k (small l) (λ i. omega (arith, joined i)) (omega (arith, joined k))))
+        | no l ↦ omega arith
+      ]
+    where
+      small : bit set k < bit more k → k < 32
+      small l = in-small more k fits (omega (arith, bit-lt more k))
+
+  pub not-grown : Within more set → sizeOf both ≤ sizeOf set
+  not-grown w = within-size both set (λ k. omega (arith, joined k, w k))
 
 -- l is in the set at n and not in that at r, so r comes before n
 pub before-end : (sets : List ℕ) (r n l : ℕ) → r ≤ n → (In l (setAt sets r) → ⊥) → In l (setAt sets n) → r < n

@@ -6,7 +6,7 @@ use native.Mathlib.Numerals.{add-one}
 use native.Mathlib.Decide.{ℕ-discrete, decLt}
 use native.Mathlib.Omega.{arith}
 use lib.ListN.{length}
-use Rattle.masks.specs.Sets.{bit, In, sizeOf, Inserted, Full, Lowest}
+use Rattle.masks.specs.Sets.{bit, In, Within, sizeOf, Inserted, Full, Lowest}
 use Rattle.masks.proofs.Laws.{bit-lt, bit-zero, size-le, within-size, within-less}
 use Rattle.masks.proofs.Machine.{lowest-is}
 use lib.Count.{trailingZeros}
@@ -104,6 +104,16 @@ module _ (graph : Graph) (g : ℕ) where
     pub last : (l : ℕ) → In l (w .seen) ↔ Reached graph g l
     last l = (λ p. (n, s .layer l .0 p), λ p. all-seen (p .0) l (p .1))
 
+    -- one move more reaches nobody
+    pub still : Spread graph g (n + 1) w
+    still = record {
+      layer = rw (add-one n) (λ l. (λ p. inl (s .layer l .0 p), λ p. all-seen (suc n) l p));
+      within = s .within;
+      looked = s .looked;
+      shut = s .shut;
+      few = s .few;
+    }
+
 -- ---- what comes in front
 
 pub grown : (w : Wave) (far front seen windows : ℕ) → ((l : ℕ) → bit front l ≡ bit far l - bit (w .seen) l)
@@ -112,6 +122,17 @@ grown w far front seen windows fresh joined = record {
   more = λ l. omega (arith, joined l);
   new = λ l p. (omega (arith, fresh l, bit-lt far l), omega (arith, joined l, bit-lt seen l));
 }
+
+-- what was seen did not grow, so nothing came in front
+pub not-more : (before after : Wave) → Grown before after → after .front < 2 ^ 32 → Within (after .front) (before .seen) → after .front ≡ 0
+not-more before after grown fits within =
+    elim (decLt 0 (after .front)) [
+      | no z ↦ omega arith
+      | yes p ↦
+          let l = trailingZeros 32 (after .front) in
+          let low : Lowest (after .front) l = lowest-is (after .front) p fits in
+          absurd (omega (arith, low .here, grown .new l (low .here) .0, within l))
+    ]
 
 -- ---- it ends: each move but the last reaches a seat that was not seen
 

@@ -1,10 +1,11 @@
 // Which seats a receiver reaches: sets of seats as masks, grown along the moves that are possible.
 ghost use mathlib.Core.Path.{_≡_};
+ghost use mathlib.Core.Bool.{false};
 ghost use mathlib.Core.Logic.{_↔_};
 ghost use Prim.Native.Nat.{ℕ, _+_, _≤_, _<_};
 ghost use lib.ListN.{length};
-ghost use Rattle.masks.specs.Sets.{bit, In};
-ghost use Rattle.reach.specs.Graphs.{setAt, Collects, Meets, UnionOver, Reached, Layers, Fewest, Spread, Grown};
+ghost use Rattle.masks.specs.Sets.{bit, In, Within};
+ghost use Rattle.reach.specs.Graphs.{setAt, Collects, Meets, UnionOver, Reached, Apart, Receives, Layers, Fewest, Spread, Grown};
 use masks::full;
 use masks::has;
 use masks::insert;
@@ -12,6 +13,7 @@ use masks::intersect;
 use masks::lowest;
 use masks::minus;
 use masks::remove_lowest;
+use masks::size;
 use masks::union;
 
 // Who can take a credit from whom.
@@ -20,6 +22,12 @@ pub struct Graph {
     pub rooms: [u32; 32],
     // For each window the seats that have a credit there.
     pub holders: [u32; 24],
+}
+
+// The first seat that reaches one which it wants.
+pub enum Receiver {
+    Nobody,
+    Seat(usize),
 }
 
 // A search outward from a seat, a move at a time.
@@ -119,16 +127,28 @@ pub fn reached(graph: Graph, g: usize) -> u32
     wave.seen
 }
 
-// What each number of moves reaches from a seat, 0 to 31 moves.
+// Whether a set would grow by the members of another.
+fn grows(set: u32, more: u32) -> bool
+    ensures { λ r. ⌜ ((r ≡ false → Within more set) × (Within more set → r ≡ false)) ⌝ }
+{
+    size(set) < size(union(set, more))
+}
+
+// What each number of moves reaches from a seat, 0 to 31 moves. Once the set does not grow it is done.
 pub fn layers(graph: Graph, g: usize) -> [u32; 32]
     requires { ⌜ g < 32 ⌝ }
     ensures { λ r. ⌜ Layers graph g r ⌝ }
 {
     let mut wave = start(g);
     let mut sets = [0u32; 32];
+    let mut growing = true;
     for n in 0..32 {
         sets[n] = wave.seen;
-        wave = outward(graph, wave);
+        if growing {
+            let next = outward(graph, wave);
+            growing = grows(wave.seen, next.front);
+            wave = next;
+        }
     }
     sets
 }
@@ -143,4 +163,42 @@ pub fn fewest(sets: [u32; 32], l: usize) -> usize
         r += 1;
     }
     r
+}
+
+// The first seat, from seat 0 up, that reaches one which it wants. Of each seat that is reached, the windows in which it has room are
+// looked at in turn, each once: who holds a credit there was seen then.
+pub fn first_receiver(graph: Graph, wants: [u32; 32], seats: usize) -> Receiver
+    requires { ⌜ (seats ≤ 32) × Apart wants ⌝ }
+    ensures { λ r. ⌜ Receives graph wants seats r ⌝ }
+{
+    let rooms = graph.rooms;
+    let holders = graph.holders;
+    let mut found = Receiver::Nobody;
+    'receiver: for g in 0..seats {
+        let wanted = wants[g];
+        if wanted == 0 {
+            continue 'receiver;
+        }
+        let mut seen = insert(0, g);
+        let mut front = seen;
+        let mut windows = full(24);
+        'reached: while front != 0 {
+            let k = lowest(front);
+            front = remove_lowest(front);
+            let mut left = intersect(rooms[k], windows);
+            windows = minus(windows, left);
+            'window: while left != 0 {
+                let w = lowest(left);
+                left = remove_lowest(left);
+                let new = minus(holders[w], seen);
+                if intersect(new, wanted) != 0 {
+                    found = Receiver::Seat(g);
+                    break 'receiver;
+                }
+                front = union(front, new);
+                seen = union(seen, new);
+            }
+        }
+    }
+    found
 }

@@ -1,55 +1,60 @@
 -- `exchange::first_pair` meets its contract.
 use borrow.Author.Needs.{needs}
-use Prim.Native.Nat.{ℕ, _-_, _≤_, _<_}
-use mathlib.Core.Logic.{⊎-elim}
 use native.Mathlib.Omega.{arith}
-use borrow.Author.Count.{below-more}
-use Rattle.exchange.specs.Steps.{Donor}
-use Rattle.exchange.proofs.Choosing.{donor-in, in-donor, none-wanted, none-shared}
+use Rattle.exchange.proofs.Choosing.{apart, no-pair, some-donor, first-pair}
 use Rattle.exchange.proofs.first_pair.Statement.{statement}
 use Rattle.exchange.proofs.first_pair.Tie as tie
 
-abbrev Inv-loop : tie.InvT-loop
-Inv-loop kind scores graph seats g₀ g = (g ≤ seats) × ((h : ℕ) → h < g → (l : ℕ) → Donor kind scores graph seats h l → ⊥)
+first-receiver-requires : tie.Need-first-receiver-requires
+first-receiver-requires c κs =
+    let a = c .before .args in
+    (search needs, apart (a .kind) (a .scores) (a .graph) (a .seats) (c .wanted-donors .result) (c .wanted-donors .ensures))
 
-abbrev μ-loop : tie.MeasureT-loop
-μ-loop kind scores graph seats g₀ g = seats - g
+mul-wanted : tie.Need-mul-wanted
+mul-wanted c =
+    let f = rw (c .before .g .given .1) at (c .before .before .before .first-receiver .ensures) in
+    let small = f .seat in
+    search needs
 
-loop-holds : tie.Need-loop-holds Inv-loop μ-loop
-loop-holds c = (search needs, λ h l. absurd (omega arith))
+array-read-wanted : tie.Need-array-read-wanted
+array-read-wanted c =
+    let f = rw (c .before .g .given .1) at (c .before .before .before .first-receiver .ensures) in
+    let small = f .seat in
+    search needs
 
-returns : tie.Need-returns Inv-loop μ-loop
+reached-requires : tie.Need-reached-requires
+reached-requires c κs =
+    let f = rw (c .before .g .given .1) at (c .before .before .before .first-receiver .ensures) in
+    let small = f .seat in
+    search needs
+
+lowest-requires : tie.Need-lowest-requires
+lowest-requires c κs =
+    let found = c .before .before .before .before .before in
+    let a = found .before .before .args in
+    let f = rw (c .before .before .before .g .given .1) at (found .first-receiver .ensures) in
+    let wants = found .before .wanted-donors .ensures in
+    some-donor (a .kind) (a .scores) (a .graph) (a .seats) _ wants _ _ _ f (c .before .reached .ensures) (c .intersect .ensures)
+
+returns : tie.Need-returns
 returns c =
-    let turn = c .before .before .before .before .before in
-    let at = turn .before .before .loop in
-    let a = turn .before .before .before .args in
-    let both = c .before .before .intersect .ensures in
-    let reaches = c .before .before .before .reached .ensures in
-    let low = c .lowest .ensures in
-    let wants = turn .wanted-by .ensures in
-    let graph = a .graph in
-    record {
-      seat = turn .before .loop-test .taken;
-      donor = in-donor (a .kind) (a .scores) graph (a .seats) (at .g) _ _ _ wants reaches both _ (low .here);
-      lowest = λ k h d. omega (arith, low .least k h, donor-in (a .kind) (a .scores) graph (a .seats) (at .g) _ _ _ wants reaches both k d);
-      earlier = λ h k l d. at .inv .1 h l k d;
-    }
+    let found = c .before .before in
+    let a = found .before .before .args in
+    let none = rw (c .enum-told .given .1) at (found .first-receiver .ensures) in
+    let wants = found .before .wanted-donors in
+    no-pair (a .kind) (a .scores) (a .graph) (a .seats) (wants .result) (wants .ensures) none
 
-loop-again : tie.Need-loop-again Inv-loop μ-loop
-loop-again c =
-    let at = c .before .before .before .loop in
-    let a = c .before .before .before .before .args in
-    let wants = c .before .wanted-by .ensures in
-    let none : (l : ℕ) → Donor (a .kind) (a .scores) (a .graph) (a .seats) (at .g) l → ⊥ = ⊎-elim
-    (λ t. none-shared (a .kind) (a .scores) (a .graph) (a .seats) (at .g) _ _ _ wants (t .1 .ensures) (t .2 .ensures) (t .3 .left))
-    (λ t. none-wanted (a .kind) (a .scores) (a .graph) (a .seats) (at .g) _ 0 0 wants (t .left))
-    (c .if1 .came) in
-    (search needs, below-more _ _ (at .inv .1) none)
-
-returns-2 : tie.Need-returns-2 Inv-loop μ-loop
-returns-2 c = λ g l h d. c .before .loop .inv .1 g (omega arith) l d
+returns-2 : tie.Need-returns-2
+returns-2 c =
+    let met = c .before in
+    let found = met .before .before .before .before .before in
+    let a = found .before .before .args in
+    let f = rw (met .before .before .before .g .given .1) at (found .first-receiver .ensures) in
+    let wants = found .before .wanted-donors .ensures in
+    first-pair (a .kind) (a .scores) (a .graph) (a .seats) _ wants _ _ _ f (met .before .reached .ensures) (met .intersect .ensures)
+    _ (c .lowest .ensures)
 
 pub first-pair-spec : {M : Type 1} → statement M
 first-pair-spec =
-    tie.close (tie.spec Inv-loop μ-loop loop-holds (λ c κs. search needs) (λ c κs. search needs) (λ c κs. search needs)
-    (λ c κs. search needs) returns (λ c. search needs) (λ c. search needs) loop-again returns-2)
+    tie.close (tie.spec (λ c κs. search needs) first-receiver-requires (λ c. search needs) (λ c. search needs) mul-wanted
+    array-read-wanted reached-requires (λ c κs. search needs) lowest-requires returns returns-2)
