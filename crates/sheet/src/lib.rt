@@ -47,8 +47,8 @@ fn add_row(mut sums: [u32; 24], row: [u16; 24], windows: usize) -> [u32; 24]
     requires { ⌜ ((j : ℕ) → j < windows → getD sums j 0 ≤ 4294901760) ⌝ }
     ensures { λ r. ⌜ ((j : ℕ) → j < windows → getD r j 0 ≡ getD sums j 0 + getD row j 0) ⌝ }
 {
-    for w in 0..windows {
-        sums[w] += row[w] as u32;
+    for j in 0..windows {
+        sums[j] += row[j] as u32;
     }
     sums
 }
