@@ -68,35 +68,37 @@ self-unwanted kind scores g e =
     } in
     test-apart kind I (λ i w. 0) g (test-same I (λ i w. 0) scores scored kind g g (omega arith) (omega arith) ∙ e)
 
-module _ (kind : Kind) (scores : Scores) (graph : Graph) (seats : ℕ) (wants : List ℕ) (rows : Rows seats (Wants kind scores seats) wants) where
-  pub apart : Apart wants
-  apart g = out-zero (setAt wants g) g (λ p. self-unwanted kind scores g (rows g g .0 p .1 .1))
+module _
+    (kind : Kind) (scores : Scores) (graph : Graph) (seats : ℕ) (wants : List ℕ) (rows : Rows seats (Wants kind scores seats) wants)
+  where
+    pub apart : Apart wants
+    apart g = out-zero (setAt wants g) g (λ p. self-unwanted kind scores g (rows g g .0 p .1 .1))
 
-  finds : (g l : ℕ) → g < seats → Donor kind scores graph seats g l → Finds graph wants g l
-  finds g l h d = (d .0, rows g l .1 (h, d .1))
+    finds : (g l : ℕ) → g < seats → Donor kind scores graph seats g l → Finds graph wants g l
+    finds g l h d = (d .0, rows g l .1 (h, d .1))
 
-  pub no-pair : Receives graph wants seats Nobody → (g l : ℕ) → g < seats → Donor kind scores graph seats g l → ⊥
-  no-pair none g l h d = none g l h (finds g l h d)
+    pub no-pair : Receives graph wants seats Nobody → (g l : ℕ) → g < seats → Donor kind scores graph seats g l → ⊥
+    no-pair none g l h d = none g l h (finds g l h d)
 
-  module _ (g reached both : ℕ) (f : First graph wants seats g) (reaches : (l : ℕ) → In l reached ↔ Reached graph g l)
-      (shared : (l : ℕ) → bit both l ≡ min (bit (setAt wants g) l) (bit reached l)) where
-    in-both : (l : ℕ) → Finds graph wants g l → In l both
-    in-both l p = omega (arith, shared l, p .1, reaches l .1 (p .0))
+    module _ (g reached both : ℕ) (f : First graph wants seats g) (reaches : (l : ℕ) → In l reached ↔ Reached graph g l)
+        (shared : (l : ℕ) → bit both l ≡ min (bit (setAt wants g) l) (bit reached l)) where
+      in-both : (l : ℕ) → Finds graph wants g l → In l both
+      in-both l p = omega (arith, shared l, p .1, reaches l .1 (p .0))
 
-    pub some-donor : 0 < both
-    some-donor = in-pos both (f .donor) (in-both (f .donor) (f .finds))
+      pub some-donor : 0 < both
+      some-donor = in-pos both (f .donor) (in-both (f .donor) (f .finds))
 
-    pub first-pair : (l : ℕ) → Lowest both l → FirstPair kind scores graph seats g l
-    first-pair l low =
-        let here = low .here in
-        let wanted : In l (setAt wants g) = omega (arith, shared l, bit-lt (setAt wants g) l) in
-        let in-reached : In l reached = omega (arith, shared l, bit-lt reached l) in
-        record {
-          seat = f .seat;
-          donor = (reaches l .0 in-reached, rows g l .0 wanted .1);
-          lowest = λ k h d. omega (arith, low .least k h, in-both k (finds g k (f .seat) d));
-          earlier = λ h k b d. f .earlier h k b (finds h k (omega (arith, f .seat)) d);
-        }
+      pub first-pair : (l : ℕ) → Lowest both l → FirstPair kind scores graph seats g l
+      first-pair l low =
+          let here = low .here in
+          let wanted : In l (setAt wants g) = omega (arith, shared l, bit-lt (setAt wants g) l) in
+          let in-reached : In l reached = omega (arith, shared l, bit-lt reached l) in
+          record {
+            seat = f .seat;
+            donor = (reaches l .0 in-reached, rows g l .0 wanted .1);
+            lowest = λ k h d. omega (arith, low .least k h, in-both k (finds g k (f .seat) d));
+            earlier = λ h k b d. f .earlier h k b (finds h k (omega (arith, f .seat)) d);
+          }
 
 -- ---- from scores and paths in memory to those of an instance
 

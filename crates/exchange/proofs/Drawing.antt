@@ -112,29 +112,31 @@ held-next sheet windows n sets sets′ cells h same a w k = (to, from)
         ]
 
 module _ (sheet : Sheet) (caps : Grid) (t : Terms) (graph : Graph)
-    (rooms : Rows (t .seats) (HasRoom sheet caps (t .windows)) (graph .rooms)) (held : HoldersOf sheet (t .windows) (t .seats) (graph .holders)) where
-  module _ (I : Instance) (S : ℕ → ℕ → ℕ) (told : Told I t caps) (shows : Shows t S sheet) where
-    to : (k l w : ℕ) → Leads (setAt (graph .rooms) k) (graph .holders) l w → Possible I S (record { window = w; giver = l; taker = k })
-    to k l w p =
-        let taker = rooms k w .0 (p .member) in
-        let giver = held w l .0 (p .leads) in
-        record {
-          in-window = omega (arith, taker .1 .0, told .windows-are);
-          in-giver = omega (arith, giver .0, told .seats-are);
-          in-taker = omega (arith, taker .0, told .seats-are);
-          has = omega (arith, giver .1 .1, shows l w (giver .0) (giver .1 .0));
-          room = omega (arith, taker .1 .1, shows k w (taker .0) (taker .1 .0), told .caps-are k w (taker .0) (taker .1 .0));
-        }
+    (rooms : Rows (t .seats) (HasRoom sheet caps (t .windows)) (graph .rooms))
+    (held : HoldersOf sheet (t .windows) (t .seats) (graph .holders))
+  where
+    module _ (I : Instance) (S : ℕ → ℕ → ℕ) (told : Told I t caps) (shows : Shows t S sheet) where
+      to : (k l w : ℕ) → Leads (setAt (graph .rooms) k) (graph .holders) l w → Possible I S (record { window = w; giver = l; taker = k })
+      to k l w p =
+          let taker = rooms k w .0 (p .member) in
+          let giver = held w l .0 (p .leads) in
+          record {
+            in-window = omega (arith, taker .1 .0, told .windows-are);
+            in-giver = omega (arith, giver .0, told .seats-are);
+            in-taker = omega (arith, taker .0, told .seats-are);
+            has = omega (arith, giver .1 .1, shows l w (giver .0) (giver .1 .0));
+            room = omega (arith, taker .1 .1, shows k w (taker .0) (taker .1 .0), told .caps-are k w (taker .0) (taker .1 .0));
+          }
 
-    from : (k l w : ℕ) → Possible I S (record { window = w; giver = l; taker = k }) → Leads (setAt (graph .rooms) k) (graph .holders) l w
-    from k l w p =
-        let in-window : w < t .windows = omega (arith, p .in-window, told .windows-are) in
-        let in-giver : l < t .seats = omega (arith, p .in-giver, told .seats-are) in
-        let in-taker : k < t .seats = omega (arith, p .in-taker, told .seats-are) in
-        let cells = shows k w in-taker in-window in
-        let room : credit sheet k w < cell caps k w = omega (arith, p .room, cells, told .caps-are k w in-taker in-window) in
-        let has : 0 < credit sheet l w = omega (arith, p .has, shows l w in-giver in-window) in
-        record { member = rooms k w .1 (in-taker, (in-window, room)); leads = held w l .1 (in-giver, (in-window, has)) }
+      from : (k l w : ℕ) → Possible I S (record { window = w; giver = l; taker = k }) → Leads (setAt (graph .rooms) k) (graph .holders) l w
+      from k l w p =
+          let in-window : w < t .windows = omega (arith, p .in-window, told .windows-are) in
+          let in-giver : l < t .seats = omega (arith, p .in-giver, told .seats-are) in
+          let in-taker : k < t .seats = omega (arith, p .in-taker, told .seats-are) in
+          let cells = shows k w in-taker in-window in
+          let room : credit sheet k w < cell caps k w = omega (arith, p .room, cells, told .caps-are k w in-taker in-window) in
+          let has : 0 < credit sheet l w = omega (arith, p .has, shows l w in-giver in-window) in
+          record { member = rooms k w .1 (in-taker, (in-window, room)); leads = held w l .1 (in-giver, (in-window, has)) }
 
-    pub drawn : Drawn I S graph
-    drawn k l w = (to k l w, from k l w)
+      pub drawn : Drawn I S graph
+      drawn k l w = (to k l w, from k l w)

@@ -23,10 +23,6 @@ module _ {A B : Type 0} (f : A → B) (xs : List A) (n : ℕ) where
   pub taken-length : n ≤ length xs → length (map f (take n xs)) ≡ n
   taken-length h = length-map (take n xs) f ∙ length-take-le n xs h
 
-  -- there are so many
-  pub taken-within : length (map f (take n xs)) ≡ n → n ≤ length xs
-  taken-within e = omega (arith, length-map (take n xs) f, length-take n xs)
-
   pub taken-at : (i : ℕ) (d : A) → i < n → getD (map f (take n xs)) i (f d) ≡ f (getD xs i d)
   taken-at i d l = List·getD-map f (take n xs) i d ∙ ap f (getD-take n xs i d l)
 

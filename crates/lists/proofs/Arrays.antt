@@ -42,10 +42,6 @@ module _ {A : Type 0} {P : ℕ → A → Type 0} {d : A} {n m : ℕ} {old : List
         rest = λ k h. getD-set-other xs i k x d (λ e. omega arith) ∙ f .rest k (omega arith);
       }
 
-  -- after the last one
-  pub filled-end : {i : ℕ} {xs : List A} → Filled P d n m old i xs → m ≤ i → Filled P d n m old m xs
-  filled-end {i} {xs} f l = let e : i ≡ m = omega (arith, f .within) in rw e at f
-
   -- each of the m entries
   pub filled-at : {i : ℕ} {xs : List A} → Filled P d n m old i xs → m ≤ i → (k : ℕ) → k < m → P k (getD xs k d)
   filled-at f l k h = f .entry k (omega arith)
@@ -53,10 +49,6 @@ module _ {A : Type 0} {P : ℕ → A → Type 0} {d : A} {n m : ℕ} {old : List
 -- ---- where each entry is to be f of its index
 
 module _ {A : Type 0} {d : A} {n : ℕ} {old : List A} where
-  -- all n entries
-  pub filled-table : {f : ℕ → A} {i : ℕ} {xs : List A} → Filled (λ k x. x ≡ f k) d n n old i xs → n ≤ i → xs ≡ table n f
-  filled-table {f} {i} {xs} h l = table-is n f xs d (h .size) (λ k lk. filled-at h l k lk)
-
   -- an array is copied
   pub filled-copy : {ys : List A} {i : ℕ} {xs : List A} → Filled (λ k x. x ≡ getD ys k d) d n n old i xs → n ≤ i → length ys ≡ n → xs ≡ ys
   filled-copy {ys} {i} {xs} h l e =

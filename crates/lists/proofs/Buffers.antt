@@ -89,11 +89,6 @@ module _ {b : List ℕ} {at : ℕ} where
         place = omega (arith, s .place, t .place, length-append xs ys);
       }
 
-  -- several bytes more
-  pub stored-bytes : {xs b′ : List ℕ} {m : ℕ} (vs : List ℕ) → Stored b at xs b′ m → Stored b at (xs ++ vs) (sets b′ m vs) (m + length vs)
-  unfolding putAt
-  stored-bytes vs s = stored-next s (record { buffer = refl; place = refl })
-
   -- the buffer is as long as it was
   pub stored-length : {xs b′ : List ℕ} {m : ℕ} → Stored b at xs b′ m → length b′ ≡ length b
   stored-length {xs} s = ap length (s .buffer) ∙ put-length b at xs
@@ -104,10 +99,6 @@ module _ {b : List ℕ} {at : ℕ} where
 
   pub stored-as : {xs ys b′ : List ℕ} {m : ℕ} → xs ≡ ys → Stored b at xs b′ m → Stored b at ys b′ m
   stored-as {b′ = b′} {m = m} e s = subst (λ (l : List ℕ). Stored b at l b′ m) e s
-
-  -- a place that is the same
-  pub stored-place : {xs b′ : List ℕ} {m n : ℕ} → Stored b at xs b′ m → n ≡ m → Stored b at xs b′ n
-  stored-place s e = record { buffer = s .buffer; place = e ∙ s .place }
 
 -- from the front on
 pub stored-front : {b xs b′ : List ℕ} {m : ℕ} → Stored b 0 xs b′ m → length xs ≤ length b → b′ ≡ xs ++ drop (length xs) b

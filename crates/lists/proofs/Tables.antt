@@ -40,11 +40,6 @@ module _ {A : Type 0} where
   pub table-all : (n : ℕ) (xs : List A) (d : A) → length xs ≡ n → table n (λ i. getD xs i d) ≡ xs
   table-all n xs d e = sym (table-is n (λ i. getD xs i d) xs d e (λ i l. refl))
 
-  -- the first of them
-  pub table-take : (n : ℕ) (xs : List A) (d : A) → n ≤ length xs → table n (λ i. getD xs i d) ≡ take n xs
-  table-take n xs d h =
-      sym (table-is n (λ i. getD xs i d) (take n xs) d (length-take-le n xs h) (λ i l. getD-take n xs i d l))
-
   -- ---- one element more
 
   table-suc : (n : ℕ) (f : ℕ → A) → table (suc n) f ≡ table n f ++ (f n ∷ [])

@@ -46,10 +46,6 @@ same-bits (suc n) a b ha hb f =
     let rest : a / 2 ≡ b / 2 = same-bits n (a / 2) (b / 2) (omega arith) (omega arith) (λ k l. f (suc k) (omega arith)) in
     omega (arith, f zero (omega arith))
 
--- two sets with the same members are equal
-pub same-set : (a b : ℕ) → a < 2 ^ 32 → b < 2 ^ 32 → ((k : ℕ) → k < 32 → bit a k ≡ bit b k) → a ≡ b
-same-set a b = same-bits 32 a b
-
 -- ---- sizes
 
 pub count-le : (n m : ℕ) → countBelow n m ≤ n
@@ -113,7 +109,3 @@ count-past n zero r f = let e : n + 0 ≡ n = omega arith in rw e (count-full n 
 count-past n (suc k) r f =
     let e : n + suc k ≡ suc (n + k) = omega arith in
     rw e (omega (arith, count-past n k r f, f .outside (n + k) (omega arith)))
-
--- all seats below n are n
-pub full-size : (n r : ℕ) → n ≤ 32 → Full n r → sizeOf r ≡ n
-full-size n r h f = let e : n + (32 - n) ≡ 32 = omega arith in rw e at (count-past n (32 - n) r f)

@@ -47,13 +47,6 @@ width-more zero h = omega arith
 width-more (suc m) h =
     within-more m (suc m) h ∙ ap suc (within-same m (suc m / 10) (suc m / 10) (omega arith) (omega arith))
 
-pub width-positive : (n : ℕ) → 1 ≤ widthOf n
-width-positive n = go (decLt n 10)
-  where
-    go : Dec (n < 10) → 1 ≤ widthOf n
-    go (yes h) = omega (arith, width-one n h)
-    go (no h) = omega (arith, width-more n (omega arith))
-
 -- a number below 10 ^ (k + 1) takes k + 1 digits at most
 pub width-le : (k n : ℕ) → n < 10 ^ suc k → widthOf n ≤ suc k
 width-le zero n h = omega (arith, width-one n (omega arith))
@@ -64,15 +57,6 @@ width-le (suc k) n h = go (width-le k (n / 10)) (decLt n 10)
     go IH (no l) = omega (arith, width-more n (omega arith), IH (omega arith))
 
 -- ---- what a decimal number is
-
-pub decimal-one : (n : ℕ) → n < 10 → decimal n ≡ (48 + n) ∷ []
-unfolding decimal digits
-decimal-one n h =
-    ap (λ (k : ℕ). digits k n) (width-one n h) ∙ ap (λ (d : ℕ). (48 + d) ∷ []) {x = n % 10} {y = n} (omega arith)
-
-pub decimal-more : (n : ℕ) → 10 ≤ n → decimal n ≡ decimal (n / 10) ++ ((48 + n % 10) ∷ [])
-unfolding decimal digits
-decimal-more n h = ap (λ (k : ℕ). digits k n) (width-more n h)
 
 pub decimal-in : (k n : ℕ) → k ≡ widthOf n → digits k n ≡ decimal n
 unfolding decimal

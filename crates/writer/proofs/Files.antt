@@ -315,15 +315,3 @@ length-told {b} {t} {ss} {i} {j} d e p q h =
     let same : ss ≡ slotsIn d =
     e ∙ sym (ap₂ slotsOf (h .book-is) (h .sheet-is)) in
     ap₂ (λ (x y : ℕ). 2 + 6 * x + 2 * y) (p ∙ ap entries same) (q ∙ ap sizes same) ∙ sym (file-long d)
-
--- the planner's file: the length of a book with any sheet
-pub planned-long : (d : Day) (s : Sheet)
-    → plannedLength (dayBook d) ≡ length (fileIn (record { book = d .book; caps = d .caps; «has_sheet» = true; sheet = s }))
-unfolding fileIn plannedLength sizedGrid bookIn
-planned-long d s = at-caps ∙ file-long (with (d .caps)) ∙ sym (file-long (with s))
-  where
-    with : Sheet → Day
-    with x = record { book = d .book; caps = d .caps; «has_sheet» = true; sheet = x }
-
-    at-caps : plannedLength (dayBook d) ≡ length (fileIn (with (d .caps)))
-    at-caps = refl

@@ -21,11 +21,4 @@ settle-requires c κs =
     (b .pre .0, sheet-full (a .t) (a .caps) (c .from-grid .result) _ (c .from-grid .ensures) f)
 
 pub settled-grid-spec : {M : Type 1} → statement M
-settled-grid-spec =
-    tie.close
-    (tie.spec
-    fill-requires
-    (λ c κs. search needs)
-    (λ c κs. search needs)
-    settle-requires
-    (λ c. search needs))
+settled-grid-spec = tie.close (tie.spec fill-requires (λ c κs. search needs) (λ c κs. search needs) settle-requires (λ c. search needs))

@@ -33,16 +33,5 @@ returns-2 c = none-above _ (no-line (c .before .before .entry-of .ensures .0) (c
 
 pub cell-above-spec : {M : Type 1} → statement M
 cell-above-spec =
-    tie.close
-    (tie.spec
-    (λ c κs. search needs)
-    (λ c. search needs)
-    start-requires
-    (λ c κs. search needs)
-    (λ c κs. search needs)
-    (λ c κs. search needs)
-    mul-first-above
-    first-above-requires
-    returns
-    (λ c. search needs)
-    returns-2)
+    tie.close (tie.spec (λ c κs. search needs) (λ c. search needs) start-requires (λ c κs. search needs) (λ c κs. search needs)
+    (λ c κs. search needs) mul-first-above first-above-requires returns (λ c. search needs) returns-2)

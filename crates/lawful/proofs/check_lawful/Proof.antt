@@ -29,12 +29,5 @@ returns-3 c =
 
 pub check-lawful-spec : {M : Type 1} → statement M
 check-lawful-spec =
-    tie.close
-    (tie.spec
-    (λ c. search needs)
-    returns
-    (λ c. search needs)
-    (λ c κs. in-range _ _ (c .before .before .before .pre) (c .enum-told .given .1))
-    returns-2
-    (λ c κs. search needs)
-    returns-3)
+    tie.close (tie.spec (λ c. search needs) returns (λ c. search needs)
+    (λ c κs. in-range _ _ (c .before .before .before .pre) (c .enum-told .given .1)) returns-2 (λ c κs. search needs) returns-3)

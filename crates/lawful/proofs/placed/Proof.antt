@@ -33,21 +33,6 @@ returns c =
 
 pub placed-spec : {M : Type 1} → statement M
 placed-spec =
-    tie.close
-    (tie.spec
-    Inv-loop
-    μ-loop
-    (λ c κs. search needs)
-    (λ c κs. search needs)
-    (λ c κs. search needs)
-    (λ c. first _ _)
-    (λ c. omega (arith, row c))
-    (λ c. omega (arith, row c))
-    (λ c. omega (arith, row c))
-    (λ c. omega (arith, row c))
-    (λ c κs. omega (arith, row c))
-    (λ c. search needs)
-    (λ c. search needs)
-    (λ c. search needs)
-    loop-again
-    returns)
+    tie.close (tie.spec Inv-loop μ-loop (λ c κs. search needs) (λ c κs. search needs) (λ c κs. search needs) (λ c. first _ _)
+    (λ c. omega (arith, row c)) (λ c. omega (arith, row c)) (λ c. omega (arith, row c)) (λ c. omega (arith, row c))
+    (λ c κs. omega (arith, row c)) (λ c. search needs) (λ c. search needs) (λ c. search needs) loop-again returns)

@@ -29,10 +29,4 @@ returns c ms rest stand count =
     rw text at (put .put-listing .ensures)
 
 pub put-day-spec : {M : Type 1} → statement M
-put-day-spec =
-    tie.close
-    (tie.spec
-    (λ c κs. size (c .before .before .before .before))
-    put-listing-requires
-    (λ c. search needs)
-    returns)
+put-day-spec = tie.close (tie.spec (λ c κs. size (c .before .before .before .before)) put-listing-requires (λ c. search needs) returns)

@@ -38,16 +38,5 @@ returns-3 c b s told shows =
 
 pub mark-full-spec : {M : Type 1} → statement M
 mark-full-spec =
-    tie.close
-    (tie.spec
-    (λ c κs. search needs)
-    (λ c. search needs)
-    (λ c. search needs)
-    write-moves-requires
-    (λ c. search needs)
-    write-moves-requires-2
-    returns
-    (λ c. search needs)
-    returns-2
-    (λ c. search needs)
-    returns-3)
+    tie.close (tie.spec (λ c κs. search needs) (λ c. search needs) (λ c. search needs) write-moves-requires (λ c. search needs)
+    write-moves-requires-2 returns (λ c. search needs) returns-2 (λ c. search needs) returns-3)

@@ -36,15 +36,6 @@ returns-2 c =
 
 pub mark-sheet-spec : {M : Type 1} → statement M
 mark-sheet-spec =
-    tie.close
-    (tie.spec
-    (λ c κs. range-in _ _ (c .before .pre .0 .fit))
-    (λ c. search needs)
-    (λ c. omega (arith, small c))
-    (λ c. omega (arith, small c))
-    returns
-    (λ c. search needs)
-    (λ c κs. let k = c .before .before .before .before in (k .args .caps, k .pre .0 .fit))
-    mark-full-requires
-    (λ c. search needs)
-    returns-2)
+    tie.close (tie.spec (λ c κs. range-in _ _ (c .before .pre .0 .fit)) (λ c. search needs) (λ c. omega (arith, small c))
+    (λ c. omega (arith, small c)) returns (λ c. search needs)
+    (λ c κs. let k = c .before .before .before .before in (k .args .caps, k .pre .0 .fit)) mark-full-requires (λ c. search needs) returns-2)

@@ -9,15 +9,5 @@ slice-aggregate-write-all c = sym (length-take-le _ _ (c .before .of-plan .ensur
 
 pub main-spec : {M : Type 1} → statement M
 main-spec =
-    tie.close
-    (tie.spec
-    (λ c κs. search needs)
-    (λ c. search needs)
-    (λ c κs. search needs)
-    (λ c. search needs)
-    (λ c. search needs)
-    (λ c κs. search needs)
-    (λ c. c .of-plan .ensures .1)
-    slice-aggregate-write-all
-    (λ c κs. search needs)
-    (λ c. search needs))
+    tie.close (tie.spec (λ c κs. search needs) (λ c. search needs) (λ c κs. search needs) (λ c. search needs) (λ c. search needs)
+    (λ c κs. search needs) (λ c. c .of-plan .ensures .1) slice-aggregate-write-all (λ c κs. search needs) (λ c. search needs))

@@ -86,16 +86,5 @@ returns-3 c =
 
 pub plan-spec : {M : Type 1} → statement M
 plan-spec =
-    tie.close
-    (tie.spec
-    (λ c κs. search needs)
-    (λ c. search needs)
-    returns
-    (λ c. search needs)
-    file-length-requires
-    returns-2
-    (λ c κs. search needs)
-    planned-sheet-requires
-    put-file-requires
-    (λ c. search needs)
-    returns-3)
+    tie.close (tie.spec (λ c κs. search needs) (λ c. search needs) returns (λ c. search needs) file-length-requires returns-2
+    (λ c κs. search needs) planned-sheet-requires put-file-requires (λ c. search needs) returns-3)

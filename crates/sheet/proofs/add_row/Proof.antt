@@ -43,19 +43,5 @@ returns c = filled-at (c .before .loop .inv) (c .loop-test .left)
 
 pub add-row-spec : {M : Type 1} → statement M
 add-row-spec =
-    tie.close
-    (tie.spec
-    Inv-loop
-    μ-loop
-    loop-holds
-    (λ c. search needs)
-    (λ c. search needs)
-    (λ c. omega (arith, cell-here c))
-    (λ c. search needs)
-    (λ c. search needs)
-    add-sums
-    (λ c. search needs)
-    (λ c. search needs)
-    (λ c. search needs)
-    loop-again
-    returns)
+    tie.close (tie.spec Inv-loop μ-loop loop-holds (λ c. search needs) (λ c. search needs) (λ c. omega (arith, cell-here c))
+    (λ c. search needs) (λ c. search needs) add-sums (λ c. search needs) (λ c. search needs) (λ c. search needs) loop-again returns)

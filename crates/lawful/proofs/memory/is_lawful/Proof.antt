@@ -20,11 +20,5 @@ returns-3 c e =
 
 pub is-lawful-spec : {M : Type 1} → statement M
 is-lawful-spec =
-    tie.close
-    (tie.spec
-    (λ c e. absurd (true≢false (sym e)))
-    (λ c κs. search needs)
-    (λ c e. absurd (true≢false (sym e)))
-    (λ c κs. search needs)
-    (λ c κs. search needs)
-    returns-3)
+    tie.close (tie.spec (λ c e. absurd (true≢false (sym e))) (λ c κs. search needs) (λ c e. absurd (true≢false (sym e)))
+    (λ c κs. search needs) (λ c κs. search needs) returns-3)

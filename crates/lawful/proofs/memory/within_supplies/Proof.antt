@@ -26,18 +26,5 @@ returns-2 c e j h = c .before .loop .inv .1 j (omega (arith, c .loop-test .left)
 
 pub within-supplies-spec : {M : Type 1} → statement M
 within-supplies-spec =
-    tie.close
-    (tie.spec
-    Inv-loop
-    μ-loop
-    (λ c. (zero-le, λ k l. absurd (omega arith)))
-    (λ c. search needs)
-    (λ c. search needs)
-    (λ c. search needs)
-    (λ c. search needs)
-    (λ c. search needs)
-    returns
-    (λ c. search needs)
-    (λ c. search needs)
-    loop-again
-    returns-2)
+    tie.close (tie.spec Inv-loop μ-loop (λ c. (zero-le, λ k l. absurd (omega arith))) (λ c. search needs) (λ c. search needs)
+    (λ c. search needs) (λ c. search needs) (λ c. search needs) returns (λ c. search needs) (λ c. search needs) loop-again returns-2)

@@ -24,11 +24,4 @@ returns c =
 
 pub put-head-line-spec : {M : Type 1} → statement M
 put-head-line-spec =
-    tie.close
-    (tie.spec
-    (λ c. search needs)
-    put-field-requires
-    (λ c. search needs)
-    put-last-field-requires
-    (λ c. search needs)
-    returns)
+    tie.close (tie.spec (λ c. search needs) put-field-requires (λ c. search needs) put-last-field-requires (λ c. search needs) returns)

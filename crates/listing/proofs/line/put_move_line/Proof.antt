@@ -34,13 +34,5 @@ returns c =
 
 pub put-move-line-spec : {M : Type 1} → statement M
 put-move-line-spec =
-    tie.close
-    (tie.spec
-    (λ c. search needs)
-    put-field-requires
-    (λ c. search needs)
-    put-field-requires-2
-    (λ c. search needs)
-    put-last-field-requires
-    (λ c. search needs)
-    returns)
+    tie.close (tie.spec (λ c. search needs) put-field-requires (λ c. search needs) put-field-requires-2 (λ c. search needs)
+    put-last-field-requires (λ c. search needs) returns)

@@ -47,15 +47,5 @@ returns c =
 
 pub put-window-line-spec : {M : Type 1} → statement M
 put-window-line-spec =
-    tie.close
-    (tie.spec
-    (λ c. search needs)
-    (λ c. search needs)
-    put-field-requires
-    put-opens-requires
-    (λ c. search needs)
-    put-field-requires-2
-    (λ c. search needs)
-    put-last-field-requires
-    (λ c. search needs)
-    returns)
+    tie.close (tie.spec (λ c. search needs) (λ c. search needs) put-field-requires put-opens-requires (λ c. search needs)
+    put-field-requires-2 (λ c. search needs) put-last-field-requires (λ c. search needs) returns)

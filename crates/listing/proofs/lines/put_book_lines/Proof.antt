@@ -38,10 +38,4 @@ returns c =
 
 pub put-book-lines-spec : {M : Type 1} → statement M
 put-book-lines-spec =
-    tie.close
-    (tie.spec
-    put-head-line-requires
-    put-window-lines-requires
-    put-seat-lines-requires
-    (λ c. search needs)
-    returns)
+    tie.close (tie.spec put-head-line-requires put-window-lines-requires put-seat-lines-requires (λ c. search needs) returns)

@@ -41,14 +41,5 @@ returns-2 c =
 
 pub put-result-lines-spec : {M : Type 1} → statement M
 put-result-lines-spec =
-    tie.close
-    (tie.spec
-    (λ c. search needs)
-    (λ c. search needs)
-    put-last-field-requires
-    put-left-line-requires
-    (λ c. search needs)
-    returns
-    put-move-lines-requires
-    (λ c. search needs)
-    returns-2)
+    tie.close (tie.spec (λ c. search needs) (λ c. search needs) put-last-field-requires put-left-line-requires (λ c. search needs) returns
+    put-move-lines-requires (λ c. search needs) returns-2)

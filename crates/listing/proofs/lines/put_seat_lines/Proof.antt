@@ -32,18 +32,5 @@ returns c = growing-all (search needs) (c .before .loop .inv)
 
 pub put-seat-lines-spec : {M : Type 1} → statement M
 put-seat-lines-spec =
-    tie.close
-    (tie.spec
-    Inv-loop
-    μ-loop
-    loop-holds
-    (λ c. search needs)
-    (λ c. search needs)
-    (λ c. search needs)
-    (λ c. search needs)
-    put-seat-line-requires
-    (λ c. search needs)
-    (λ c. search needs)
-    loop-again
-    (λ c. search needs)
-    returns)
+    tie.close (tie.spec Inv-loop μ-loop loop-holds (λ c. search needs) (λ c. search needs) (λ c. search needs) (λ c. search needs)
+    put-seat-line-requires (λ c. search needs) (λ c. search needs) loop-again (λ c. search needs) returns)

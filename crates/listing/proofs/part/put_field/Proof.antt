@@ -23,10 +23,4 @@ returns c =
     stored-next (first .put-bytes .ensures) (second .put-decimal .ensures)
 
 pub put-field-spec : {M : Type 1} → statement M
-put-field-spec =
-    tie.close
-    (tie.spec
-    put-bytes-requires
-    put-decimal-requires
-    (λ c. search needs)
-    returns)
+put-field-spec = tie.close (tie.spec put-bytes-requires put-decimal-requires (λ c. search needs) returns)

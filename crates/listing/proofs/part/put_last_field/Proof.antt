@@ -23,11 +23,4 @@ returns c =
     stored-next (first .put-field .ensures) (second .put-bytes .ensures)
 
 pub put-last-field-spec : {M : Type 1} → statement M
-put-last-field-spec =
-    tie.close
-    (tie.spec
-    put-field-requires
-    (λ c. search needs)
-    put-bytes-requires
-    (λ c. search needs)
-    returns)
+put-last-field-spec = tie.close (tie.spec put-field-requires (λ c. search needs) put-bytes-requires (λ c. search needs) returns)

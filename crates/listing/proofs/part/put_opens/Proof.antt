@@ -28,11 +28,4 @@ returns c =
 
 pub put-opens-spec : {M : Type 1} → statement M
 put-opens-spec =
-    tie.close
-    (tie.spec
-    (λ c κs. search needs)
-    (λ c. search needs)
-    put-bytes-requires
-    put-four-requires
-    (λ c. search needs)
-    returns)
+    tie.close (tie.spec (λ c κs. search needs) (λ c. search needs) put-bytes-requires put-four-requires (λ c. search needs) returns)

@@ -51,27 +51,12 @@ returns c =
 
 pub write-moves-spec : {M : Type 1} → statement M
 write-moves-spec =
-    tie.close
-    (tie.spec
-    Inv-loop
-    μ-loop
-    loop-holds
-    (λ c. search needs)
-    (λ c. search needs)
-    (λ c. search needs)
-    (λ c. omega (arith, turn (c .before .before) .window))
-    (λ c. omega (arith, turn (c .before .before) .window))
-    (λ c. omega (arith, same (c .before .before)))
-    (λ c. omega (arith, turn (c .before .before .before) .giver))
-    (λ c. omega (arith, turn (c .before .before .before) .giver))
-    (λ c. search needs)
+    tie.close (tie.spec Inv-loop μ-loop loop-holds (λ c. search needs) (λ c. search needs) (λ c. search needs)
+    (λ c. omega (arith, turn (c .before .before) .window)) (λ c. omega (arith, turn (c .before .before) .window))
+    (λ c. omega (arith, same (c .before .before))) (λ c. omega (arith, turn (c .before .before .before) .giver))
+    (λ c. omega (arith, turn (c .before .before .before) .giver)) (λ c. search needs)
     (λ c. simp length-set (omega (arith, same (c .before .before .before))))
     (λ c. omega (arith, turn (c .before .before .before .before) .taker))
-    (λ c. omega (arith, turn (c .before .before .before .before) .taker))
-    (λ c. search needs)
-    (λ c. simp length-set (omega (arith, same (c .before .before .before .before))))
-    (λ c. search needs)
-    (λ c. search needs)
-    loop-again
-    (λ c. stored-length (c .before .loop .inv .1))
-    returns)
+    (λ c. omega (arith, turn (c .before .before .before .before) .taker)) (λ c. search needs)
+    (λ c. simp length-set (omega (arith, same (c .before .before .before .before)))) (λ c. search needs) (λ c. search needs) loop-again
+    (λ c. stored-length (c .before .loop .inv .1)) returns)
