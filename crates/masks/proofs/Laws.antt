@@ -37,15 +37,6 @@ unfolding bit
 in-pos m zero e = omega arith
 in-pos m (suc i) e = omega (arith, in-pos (m / 2) i e)
 
--- two numbers of n digits with the same digits are equal
-pub same-bits : (n a b : ℕ) → a < 2 ^ n → b < 2 ^ n → ((k : ℕ) → k < n → bit a k ≡ bit b k) → a ≡ b
-unfolding bit
-same-bits zero a b ha hb f = omega arith
-same-bits (suc n) a b ha hb f =
-    let p = pow-suc 2 n in
-    let rest : a / 2 ≡ b / 2 = same-bits n (a / 2) (b / 2) (omega arith) (omega arith) (λ k l. f (suc k) (omega arith)) in
-    omega (arith, f zero (omega arith))
-
 -- ---- sizes
 
 pub count-le : (n m : ℕ) → countBelow n m ≤ n
@@ -97,15 +88,3 @@ within-less a b j l f h = count-less 32 a b j l (λ k i. f k) h
 -- a seat that was in the set goes: one less. The measure of a loop that takes a set's seats in turn is its size.
 pub removed-shrinks : (m i r : ℕ) → i < 32 → In i m → Removed m i r → sizeOf m ≡ sizeOf r + 1
 removed-shrinks m i r l e s = count-more 32 r m i l (λ k n. sym (s .others k n)) (omega (arith, s .here))
-
-count-full : (n k r : ℕ) → Full n r → k ≤ n → countBelow k r ≡ k
-unfolding countBelow
-count-full n zero r f l = refl
-count-full n (suc k) r f l = omega (arith, count-full n k r f (omega arith), f .inside k (omega arith))
-
-count-past : (n k r : ℕ) → Full n r → countBelow (n + k) r ≡ n
-unfolding countBelow
-count-past n zero r f = let e : n + 0 ≡ n = omega arith in rw e (count-full n n r f (omega arith))
-count-past n (suc k) r f =
-    let e : n + suc k ≡ suc (n + k) = omega arith in
-    rw e (omega (arith, count-past n k r f, f .outside (n + k) (omega arith)))
