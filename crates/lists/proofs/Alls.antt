@@ -1,5 +1,5 @@
 -- Lists whose elements all have a property, by index; and the elements that an array has in use, the first n of it, each made into
--- another by f, as the moves of a route are.
+-- another by f, as the moves of a path are.
 use mathlib.Core.List.{List, [], _∷_, map}
 use mathlib.Core.Path.{_≡_, ap, _∙_}
 use Prim.Native.Nat.{ℕ, zero, suc, _≤_, _<_}
