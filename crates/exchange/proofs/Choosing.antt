@@ -4,7 +4,7 @@ use mathlib.Core.Bool.{true, false, true≢false}
 use mathlib.Core.Logic.{_↔_}
 use mathlib.Core.List.{List, [], _∷_}
 use Prim.Native.Nat.{ℕ, _+_, min, _<_, _≤_}
-use native.Mathlib.Decide.{decLt}
+use native.Mathlib.Decide.{ℕ-discrete, decLt}
 use native.Mathlib.Omega.{arith}
 use lib.ListN.{length, getD}
 use Rattle.fairness.specs.Sums.{sum}
@@ -13,10 +13,9 @@ use Rattle.fairness.specs.Exchange.{Move, Path, Exchange, improvesAt, tiesAt}
 use Rattle.fairness.proofs.Theorems.{path-within, improves-apart, ties-apart}
 use Rattle.model.proofs.Tests.{not-true}
 use Rattle.masks.specs.Sets.{bit, In, Lowest}
-use Rattle.masks.proofs.Laws.{bit-lt, in-pos}
+use Rattle.masks.proofs.Laws.{bit-lt, bit-zero, in-pos}
 use Rattle.reach.specs.declared.Graph.{Graph}
-use Rattle.reach.specs.declared.Receiver.the-variants.{Nobody}
-use Rattle.reach.specs.Graphs.{setAt, Rows, Reached, Finds, First, Receives, Apart}
+use Rattle.reach.specs.Graphs.{Reached}
 use Rattle.reach.proofs.Members.{out-zero}
 use Rattle.exchange.specs.declared.ExchangePath.{ExchangePath}
 use Rattle.exchange.specs.declared.Scores.{Scores}
@@ -24,7 +23,7 @@ use Rattle.exchange.specs.declared.Kind.{Kind}
 use Rattle.exchange.specs.declared.Kind.the-variants.{None, Improving, WronglyTied}
 use Rattle.exchange.specs.Paths.{movesOf, Chosen}
 use Rattle.exchange.specs.Tests.{testOf, testBy, scoreAt, Scored, Wants}
-use Rattle.exchange.specs.Steps.{Drawn, Donor, FirstPair, Nearest}
+use Rattle.exchange.specs.Steps.{Drawn, Donor, First, FirstPair, Nearest}
 use Rattle.exchange.proofs.Bridge.{within-reach, reach-seat}
 
 -- ---- the tests
@@ -46,7 +45,7 @@ module _ (I : Instance) (S : Sheet) (scores : Scores) (s : Scored I S scores) wh
   test-same WronglyTied g l a b =
       rw (s .heights-are g a, s .weights-are g a, s .positions-are g a, s .heights-are l b, s .weights-are l b, s .positions-are l b) refl
 
--- ---- the donors of each receiver, as sets
+-- ---- the donors of a receiver, as sets
 
 -- scores are those of some instance, so no seat wants itself
 self-unwanted : (kind : Kind) (scores : Scores) (g : ℕ) → testBy kind (scoreAt scores g) (scoreAt scores g) ≡ true → ⊥
@@ -68,37 +67,48 @@ self-unwanted kind scores g e =
     } in
     test-apart kind I (λ i w. 0) g (test-same I (λ i w. 0) scores scored kind g g (omega arith) (omega arith) ∙ e)
 
-module _
-    (kind : Kind) (scores : Scores) (graph : Graph) (seats : ℕ) (wants : List ℕ) (rows : Rows seats (Wants kind scores seats) wants)
-  where
-    pub apart : Apart wants
-    apart g = out-zero (setAt wants g) g (λ p. self-unwanted kind scores g (rows g g .0 p .1 .1))
+module _ (kind : Kind) (scores : Scores) (graph : Graph) (seats g wanted : ℕ) (wants : (l : ℕ) → In l wanted ↔ Wants kind scores seats g l) where
+  pub apart : bit wanted g ≡ 0
+  apart = out-zero wanted g (λ p. self-unwanted kind scores g (wants g .0 p .1))
 
-    finds : (g l : ℕ) → g < seats → Donor kind scores graph seats g l → Finds graph wants g l
-    finds g l h d = (d .0, rows g l .1 (h, d .1))
+  -- nobody is wanted
+  pub none-wanted : wanted ≡ 0 → (l : ℕ) → Donor kind scores graph seats g l → ⊥
+  none-wanted z l d = omega (arith, rw z at (wants l .1 (d .1)), bit-zero l)
 
-    pub no-pair : Receives graph wants seats Nobody → (g l : ℕ) → g < seats → Donor kind scores graph seats g l → ⊥
-    no-pair none g l h d = none g l h (finds g l h d)
+  -- no receiver before g has a donor; g′ is g in the search
+  module _ (earlier : (h : ℕ) → h < g → (l : ℕ) → Donor kind scores graph seats h l → ⊥) (g′ : ℕ) (e : g′ ≡ g) where
+    -- nor has g
+    pub no-donor : ((l : ℕ) → Reached graph g′ l → In l wanted → ⊥) → (h : ℕ) → h < g′ + 1 → (l : ℕ) → Donor kind scores graph seats h l → ⊥
+    no-donor none h b l d =
+        elim (ℕ-discrete h g) [
+          | yes q ↦ let here : Donor kind scores graph seats g l = rw q at d in none l (rw e (here .0)) (wants l .1 (here .1))
+          | no q ↦ earlier h (omega arith) l d
+        ]
 
-    module _ (g reached both : ℕ) (f : First graph wants seats g) (reaches : (l : ℕ) → In l reached ↔ Reached graph g l)
-        (shared : (l : ℕ) → bit both l ≡ min (bit (setAt wants g) l) (bit reached l)) where
-      in-both : (l : ℕ) → Finds graph wants g l → In l both
-      in-both l p = omega (arith, shared l, p .1, reaches l .1 (p .0))
+    -- g has one
+    pub a-donor : g < seats → (l : ℕ) → Reached graph g′ l → In l wanted → First kind scores graph seats g′
+    a-donor seat l p w =
+        rw e (record { seat = seat; some = (l, (rw e at p, wants l .0 w)); earlier = λ h k b d. earlier h b k d })
 
-      pub some-donor : 0 < both
-      some-donor = in-pos both (f .donor) (in-both (f .donor) (f .finds))
+  module _ (reached both : ℕ) (reaches : (l : ℕ) → In l reached ↔ Reached graph g l)
+      (shared : (l : ℕ) → bit both l ≡ min (bit wanted l) (bit reached l)) (f : First kind scores graph seats g) where
+    donor-in : (l : ℕ) → Donor kind scores graph seats g l → In l both
+    donor-in l d = omega (arith, shared l, wants l .1 (d .1), reaches l .1 (d .0))
 
-      pub first-pair : (l : ℕ) → Lowest both l → FirstPair kind scores graph seats g l
-      first-pair l low =
-          let here = low .here in
-          let wanted : In l (setAt wants g) = omega (arith, shared l, bit-lt (setAt wants g) l) in
-          let in-reached : In l reached = omega (arith, shared l, bit-lt reached l) in
-          record {
-            seat = f .seat;
-            donor = (reaches l .0 in-reached, rows g l .0 wanted .1);
-            lowest = λ k h d. omega (arith, low .least k h, in-both k (finds g k (f .seat) d));
-            earlier = λ h k b d. f .earlier h k b (finds h k (omega (arith, f .seat)) d);
-          }
+    pub some-donor : 0 < both
+    some-donor = in-pos both (f .some .0) (donor-in (f .some .0) (f .some .1))
+
+    pub first-pair : (l : ℕ) → Lowest both l → FirstPair kind scores graph seats g l
+    first-pair l low =
+        let here = low .here in
+        let in-reached : In l reached = omega (arith, shared l, bit-lt reached l) in
+        let in-wanted : In l wanted = omega (arith, shared l, bit-lt wanted l) in
+        record {
+          seat = f .seat;
+          donor = (reaches l .0 in-reached, wants l .0 in-wanted);
+          lowest = λ k h d. omega (arith, low .least k h, donor-in k d);
+          earlier = f .earlier;
+        }
 
 -- ---- from scores and paths in memory to those of an instance
 

@@ -4,6 +4,7 @@ pub mod Drawing
 pub mod Routes
 pub mod Bridge
 pub mod Choosing
+pub mod Search
 pub mod Finding
 -- what callers cite
 pub mod Theorems

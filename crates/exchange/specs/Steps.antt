@@ -12,6 +12,8 @@ use Rattle.masks.specs.Sets.{In}
 use Rattle.reach.specs.declared.Graph.{Graph}
 use Rattle.reach.specs.Graphs.{setAt, Leads, Takes, Reach, Reached, Layers}
 use Rattle.exchange.specs.declared.Kind.{Kind}
+use Rattle.exchange.specs.declared.Receiver.{Receiver}
+use Rattle.exchange.specs.declared.Receiver.the-variants as receiver
 use Rattle.exchange.specs.declared.Pair.{Pair}
 use Rattle.exchange.specs.declared.Pair.the-variants.{Nobody, Between}
 use Rattle.exchange.specs.declared.Scores.{Scores}
@@ -29,6 +31,17 @@ Drawn I S graph = (k l w : ℕ) →
 -- g reaches l, a donor that is wanted for it
 abbrev pub Donor : Kind → Scores → Graph → ℕ → ℕ → ℕ → Type 0
 Donor kind scores graph seats g l = Reached graph g l × Wants kind scores seats g l
+
+-- the first receiver that has a donor
+pub record First (kind : Kind) (scores : Scores) (graph : Graph) (seats g : ℕ) : Type 0 where
+  pub seat : g < seats
+  pub some : (l : ℕ) × Donor kind scores graph seats g l
+  pub earlier : (h k : ℕ) → h < g → Donor kind scores graph seats h k → ⊥
+
+-- that receiver, or the fact that there is none
+abbrev pub Receives : Kind → Scores → Graph → ℕ → Receiver → Type 0
+Receives kind scores graph seats receiver.Nobody = (g l : ℕ) → g < seats → Donor kind scores graph seats g l → ⊥
+Receives kind scores graph seats (receiver.Seat g) = First kind scores graph seats g
 
 -- the first receiver that has a donor, and its lowest one
 pub record FirstPair (kind : Kind) (scores : Scores) (graph : Graph) (seats g l : ℕ) : Type 0 where

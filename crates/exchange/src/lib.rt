@@ -8,13 +8,12 @@ ghost use Rattle.model.specs.Book.{Grid};
 ghost use Rattle.sheet.specs.Sheets.{credit};
 ghost use Rattle.instance.specs.Terms.{instanceIn, Told, Shows, Ranged, Small};
 ghost use Rattle.masks.specs.Sets.{In};
-ghost use Rattle.reach.specs.Graphs.{setAt, Collects, Rows, Reached, Layers, Fewest};
+ghost use Rattle.reach.specs.Graphs.{setAt, Collects, Reached, Layers, Fewest};
 ghost use Rattle.exchange.specs.Paths.{movesOf, Writable, Answers};
 ghost use Rattle.exchange.specs.Tests.{testBy, Tested, Bounded, Scored, Wants};
-ghost use Rattle.exchange.specs.Steps.{Drawn, Firsts, Gives, GivesBy, Leading, Nearest};
+ghost use Rattle.exchange.specs.Steps.{Drawn, Receives, Firsts, Gives, GivesBy, Leading, Nearest};
 use instance::Terms;
 use reach::Graph;
-use reach::Receiver;
 use sheet::Caps;
 use sheet::Move;
 use sheet::Sheet;
@@ -47,6 +46,12 @@ pub struct Scores {
     pub heights: [u32; 32],
     pub weights: [u32; 32],
     pub positions: [u32; 32],
+}
+
+// The first receiver that reaches a donor.
+pub enum Receiver {
+    Nobody,
+    Seat(usize),
 }
 
 // A receiver and a donor that it reaches.
@@ -175,16 +180,45 @@ fn wanted_by(kind: Kind, scores: Scores, seats: usize, g: usize) -> u32
     set
 }
 
-// For each receiver the donors that are wanted for it.
-fn wanted_donors(kind: Kind, scores: Scores, seats: usize) -> [u32; 32]
+// The first receiver that reaches a donor which is wanted for it. Of each seat that is reached, the windows in which it has room are looked
+// at in turn, each once: who holds a credit there was seen then.
+fn first_receiver(kind: Kind, scores: Scores, graph: Graph, seats: usize) -> Receiver
     requires { ⌜ (seats ≤ 32) × Bounded seats scores ⌝ }
-    ensures { λ r. ⌜ Rows seats (Wants kind scores seats) r ⌝ }
+    ensures { λ r. ⌜ Receives kind scores graph seats r ⌝ }
 {
-    let mut wants = [0u32; 32];
-    for g in 0..seats {
-        wants[g] = wanted_by(kind, scores, seats, g);
+    let rooms = graph.rooms;
+    let holders = graph.holders;
+    let mut found = Receiver::Nobody;
+    'receiver: for g in 0..seats {
+        let wanted = wanted_by(kind, scores, seats, g);
+        if wanted == 0 {
+            continue 'receiver;
+        }
+        let mut seen = masks::insert(0, g);
+        let mut front = seen;
+        let mut windows = masks::full(24);
+        'reached: while front != 0 {
+            if windows == 0 {
+                continue 'receiver;
+            }
+            let k = masks::lowest(front);
+            front = masks::remove_lowest(front);
+            let mut left = masks::intersect(rooms[k], windows);
+            windows = masks::minus(windows, left);
+            'window: while left != 0 {
+                let w = masks::lowest(left);
+                left = masks::remove_lowest(left);
+                let new = masks::minus(holders[w], seen);
+                if masks::intersect(new, wanted) != 0 {
+                    found = Receiver::Seat(g);
+                    break 'receiver;
+                }
+                front = masks::union(front, new);
+                seen = masks::union(seen, new);
+            }
+        }
     }
-    wants
+    found
 }
 
 // The first receiver that reaches a donor which is wanted for it, and its lowest such donor.
@@ -192,11 +226,10 @@ fn first_pair(kind: Kind, scores: Scores, graph: Graph, seats: usize) -> Pair
     requires { ⌜ (seats ≤ 32) × Bounded seats scores ⌝ }
     ensures { λ r. ⌜ Firsts kind scores graph seats r ⌝ }
 {
-    let wants = wanted_donors(kind, scores, seats);
-    match reach::first_receiver(graph, wants, seats) {
+    match first_receiver(kind, scores, graph, seats) {
         Receiver::Nobody => Pair::Nobody,
         Receiver::Seat(g) => {
-            let wanted = wants[g];
+            let wanted = wanted_by(kind, scores, seats, g);
             let donors = masks::intersect(wanted, reach::reached(graph, g));
             Pair::Between {
                 receiver: g,

@@ -2,5 +2,4 @@
 pub mod Members
 pub mod Unions
 pub mod Waves
-pub mod Search
 pub mod Collect

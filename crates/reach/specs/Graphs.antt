@@ -7,8 +7,6 @@ use Prim.Native.Nat.{ℕ, zero, suc, _<_}
 use lib.ListN.{getD}
 use Rattle.masks.specs.Sets.{bit, In, Within}
 use Rattle.reach.specs.declared.Graph.{Graph}
-use Rattle.reach.specs.declared.Receiver.{Receiver}
-use Rattle.reach.specs.declared.Receiver.the-variants.{Nobody, Seat}
 use Rattle.reach.specs.declared.Wave.{Wave}
 
 -- the set at an index of a list of sets
@@ -59,26 +57,6 @@ Reach graph (suc r) g l = Reach graph r g l ⊎ ((k : ℕ) × (Reach graph r g k
 -- some number of moves leads from g to l
 abbrev pub Reached : Graph → ℕ → ℕ → Type 0
 Reached graph g l = (r : ℕ) × Reach graph r g l
-
--- g reaches l, one that it wants
-abbrev pub Finds : Graph → List ℕ → ℕ → ℕ → Type 0
-Finds graph wants g l = Reached graph g l × In l (setAt wants g)
-
--- the first seat that reaches one which it wants
-pub record First (graph : Graph) (wants : List ℕ) (seats g : ℕ) : Type 0 where
-  pub seat : g < seats
-  pub donor : ℕ
-  pub finds : Finds graph wants g donor
-  pub earlier : (h l : ℕ) → h < g → Finds graph wants h l → ⊥
-
--- that seat, or the fact that there is none
-abbrev pub Receives : Graph → List ℕ → ℕ → Receiver → Type 0
-Receives graph wants seats Nobody = (g l : ℕ) → g < seats → Finds graph wants g l → ⊥
-Receives graph wants seats (Seat g) = First graph wants seats g
-
--- no seat wants itself
-abbrev pub Apart : List ℕ → Type 0
-Apart wants = (g : ℕ) → bit (setAt wants g) g ≡ 0
 
 -- a set is what at most r moves reach from g
 abbrev pub Layer : Graph → ℕ → ℕ → ℕ → Type 0

@@ -5,7 +5,7 @@ ghost use mathlib.Core.Logic.{_↔_};
 ghost use Prim.Native.Nat.{ℕ, _+_, _≤_, _<_};
 ghost use lib.ListN.{length};
 ghost use Rattle.masks.specs.Sets.{bit, In, Within};
-ghost use Rattle.reach.specs.Graphs.{setAt, Collects, Meets, UnionOver, Reached, Apart, Receives, Layers, Fewest, Spread, Grown};
+ghost use Rattle.reach.specs.Graphs.{setAt, Collects, Meets, UnionOver, Reached, Layers, Fewest, Spread, Grown};
 use masks::full;
 use masks::has;
 use masks::insert;
@@ -22,12 +22,6 @@ pub struct Graph {
     pub rooms: [u32; 32],
     // For each window the seats that have a credit there.
     pub holders: [u32; 24],
-}
-
-// The first seat that reaches one which it wants.
-pub enum Receiver {
-    Nobody,
-    Seat(usize),
 }
 
 // A search outward from a seat, a move at a time.
@@ -163,42 +157,4 @@ pub fn fewest(sets: [u32; 32], l: usize) -> usize
         r += 1;
     }
     r
-}
-
-// The first seat, from seat 0 up, that reaches one which it wants. Of each seat that is reached, the windows in which it has room are
-// looked at in turn, each once: who holds a credit there was seen then.
-pub fn first_receiver(graph: Graph, wants: [u32; 32], seats: usize) -> Receiver
-    requires { ⌜ (seats ≤ 32) × Apart wants ⌝ }
-    ensures { λ r. ⌜ Receives graph wants seats r ⌝ }
-{
-    let rooms = graph.rooms;
-    let holders = graph.holders;
-    let mut found = Receiver::Nobody;
-    'receiver: for g in 0..seats {
-        let wanted = wants[g];
-        if wanted == 0 {
-            continue 'receiver;
-        }
-        let mut seen = insert(0, g);
-        let mut front = seen;
-        let mut windows = full(24);
-        'reached: while front != 0 {
-            let k = lowest(front);
-            front = remove_lowest(front);
-            let mut left = intersect(rooms[k], windows);
-            windows = minus(windows, left);
-            'window: while left != 0 {
-                let w = lowest(left);
-                left = remove_lowest(left);
-                let new = minus(holders[w], seen);
-                if intersect(new, wanted) != 0 {
-                    found = Receiver::Seat(g);
-                    break 'receiver;
-                }
-                front = union(front, new);
-                seen = union(seen, new);
-            }
-        }
-    }
-    found
 }

@@ -1,0 +1,159 @@
+-- `exchange::first_receiver` meets its contract.
+use borrow.Author.Needs.{needs}
+use mathlib.Core.Path.{_≡_, refl}
+use Prim.Native.Nat.{ℕ, _+_, _-_, _≤_, _<_}
+use native.Mathlib.Omega.{arith}
+use lib.ListN.{length}
+use borrow.Author.Count.{below-more}
+use Rattle.masks.specs.Sets.{sizeOf}
+use Rattle.masks.proofs.Laws.{removed-shrinks}
+use Rattle.exchange.specs.declared.Receiver.the-variants.{Nobody}
+use Rattle.exchange.specs.Steps.{Donor}
+use Rattle.exchange.proofs.Choosing.{apart, none-wanted, no-donor, a-donor}
+use Rattle.exchange.proofs.Search.{Seen, Looking, first, taken, taken-less, last, no-window, looked, window-small, found, joined}
+use Rattle.exchange.proofs.first_receiver.Statement.{statement}
+use Rattle.exchange.proofs.first_receiver.Tie as tie
+
+abbrev Inv-window : tie.InvT-window
+Inv-window kind scores seats rooms holders found₀ g wanted seen₀ front₀ windows k left₀ found seen front left =
+    (found ≡ Nobody) × Looking (record { rooms = rooms; holders = holders }) g wanted k seen₀ front₀ seen front windows left
+
+abbrev μ-window : tie.MeasureT-window
+μ-window kind scores seats rooms holders found₀ g wanted seen₀ front₀ windows k left₀ found seen front left = sizeOf left
+
+abbrev Inv-reached : tie.InvT-reached
+Inv-reached kind scores seats rooms holders found₀ g₀ wanted seen₀ front₀ windows₀ found g seen front windows =
+    (g ≡ g₀) × ((found ≡ Nobody) × Seen (record { rooms = rooms; holders = holders }) g wanted seen front windows 0)
+
+abbrev μ-reached : tie.MeasureT-reached
+μ-reached kind scores seats rooms holders found₀ g₀ wanted seen₀ front₀ windows₀ found g seen front windows =
+    32 + sizeOf front - sizeOf seen
+
+abbrev Inv-receiver : tie.InvT-receiver
+Inv-receiver kind scores seats rooms holders found₀ g₀ found g =
+    (g ≤ seats)
+    × ((found ≡ Nobody)
+    × ((h : ℕ) → h < g → (l : ℕ) → Donor kind scores (record { rooms = rooms; holders = holders }) seats h l → ⊥))
+
+abbrev μ-receiver : tie.MeasureT-receiver
+μ-receiver kind scores seats rooms holders found₀ g₀ found g = seats - g
+
+receiver-again : tie.Need-receiver-again Inv-window μ-window Inv-reached μ-reached Inv-receiver μ-receiver
+receiver-again c =
+    let at = c .before .before .before .receiver in
+    let a = c .before .before .before .before .before .before .args in
+    let none = none-wanted (a .kind) (a .scores) (a .graph) (a .seats) (at .g) _ (c .before .wanted-by .ensures) (c .if1 .taken) in
+    (search needs, (at .inv .1 .0, below-more _ _ (at .inv .1 .1) none))
+
+-- there are 24 windows
+long : (c : tie.Start Inv-window μ-window Inv-reached μ-reached Inv-receiver μ-receiver) → length (c .args .graph .holders) ≡ 24
+long c = search needs
+
+reached-holds : tie.Need-reached-holds Inv-window μ-window Inv-reached μ-reached Inv-receiver μ-receiver
+reached-holds c =
+    let turn = c .before .before .before in
+    let at = turn .before .before .receiver in
+    let start = turn .before .before .before .before .before in
+    let a = start .args in
+    let self = apart (a .kind) (a .scores) (a .graph) (a .seats) (at .g) _ (turn .wanted-by .ensures) in
+    (refl, (at .inv .1 .0, first (a .graph) (at .g) _ _ _ (long start) (c .before .insert .ensures) (c .full .ensures) self))
+
+receiver-again-2 : tie.Need-receiver-again-2 Inv-window μ-window Inv-reached μ-reached Inv-receiver μ-receiver
+receiver-again-2 c =
+    let at = c .before .before .reached in
+    let turn = c .before .before .before .before .before .before in
+    let outer = turn .before .before .receiver in
+    let a = turn .before .before .before .before .before .args in
+    let none = no-window (a .graph) (at .g) _ _ _ _ (at .inv .1 .1) (c .if2 .taken) in (
+      search needs,
+      (
+        at .inv .1 .0,
+        no-donor (a .kind) (a .scores) (a .graph) (a .seats) (outer .g) _ (turn .wanted-by .ensures) (outer .inv .1 .1) _ (at .inv .0) none,
+      ),
+    )
+
+window-holds : tie.Need-window-holds Inv-window μ-window Inv-reached μ-reached Inv-receiver μ-receiver
+window-holds c =
+    let at = c .before .before .before .before .before .before .reached in
+    let low = c .before .before .before .lowest .ensures in
+    let next = taken _ _ _ _ _ _ _ _ _ _ (at .inv .1 .1) low (c .before .before .remove-lowest .ensures _ low) in
+    (at .inv .1 .0, next (c .before .intersect .ensures) (c .minus .ensures))
+
+reached-less : tie.Need-reached-less Inv-window μ-window Inv-reached μ-reached Inv-receiver μ-receiver
+reached-less c =
+    let at = c .before .before .before .before .before .before .before .before .reached in
+    let low = c .before .before .before .before .before .lowest .ensures in
+    let next = taken-less _ _ _ _ _ _ _ _ _ _ (at .inv .1 .1) low (c .before .before .before .before .remove-lowest .ensures _ low) in
+    next (c .before .before .before .intersect .ensures) (c .before .before .minus .ensures) _ _ (c .before .window .inv .1 .alike)
+
+reached-again : tie.Need-reached-again Inv-window μ-window Inv-reached μ-reached Inv-receiver μ-receiver
+reached-again c =
+    let at = c .before .window in
+    let same = c .before .before .before .before .before .before .before .before .reached .inv .0 in
+    (same, (at .inv .0, looked _ _ _ _ _ _ _ _ _ _ (at .inv .1) (c .window-test .left)))
+
+mul-minus : tie.Need-mul-minus Inv-window μ-window Inv-reached μ-reached Inv-receiver μ-receiver
+mul-minus c =
+    let here = window-small _ _ _ _ _ _ _ _ _ _ (c .before .before .before .window .inv .1) _ (c .before .lowest2 .ensures) in
+    search needs
+
+array-read-minus : tie.Need-array-read-minus Inv-window μ-window Inv-reached μ-reached Inv-receiver μ-receiver
+array-read-minus c = window-small _ _ _ _ _ _ _ _ _ _ (c .before .before .before .window .inv .1) _ (c .before .lowest2 .ensures)
+
+window-less : tie.Need-window-less Inv-window μ-window Inv-reached μ-reached Inv-receiver μ-receiver
+window-less c =
+    let low = c .before .before .before .before .before .before .lowest2 .ensures in
+    let gone = c .before .before .before .before .before .remove-lowest2 .ensures _ low in
+    omega (arith, removed-shrinks _ _ _ (low .small) (low .here) gone)
+
+window-again : tie.Need-window-again Inv-window μ-window Inv-reached μ-reached Inv-receiver μ-receiver
+window-again c =
+    let at = c .before .before .before .before .before .before .before .before .window in
+    let low = c .before .before .before .before .before .before .lowest2 .ensures in
+    let gone = c .before .before .before .before .before .remove-lowest2 .ensures _ low in
+    let next = joined _ _ _ _ _ _ _ _ _ _ (at .inv .1) _ low _ _ _ gone in
+    let new = next (c .before .before .before .before .minus2 .ensures) (c .before .before .before .intersect2 .ensures) in
+    (at .inv .0, new _ _ (c .before .union .ensures) (c .union2 .ensures) (c .before .before .if3 .left))
+
+receiver-again-3 : tie.Need-receiver-again-3 Inv-window μ-window Inv-reached μ-reached Inv-receiver μ-receiver
+receiver-again-3 c =
+    let at = c .before .reached in
+    let turn = c .before .before .before .before .before in
+    let outer = turn .before .before .receiver in
+    let a = turn .before .before .before .before .before .args in
+    let none = last (a .graph) (at .g) _ _ _ _ (at .inv .1 .1) (c .reached-test .left) in (
+      search needs,
+      (
+        at .inv .1 .0,
+        no-donor (a .kind) (a .scores) (a .graph) (a .seats) (outer .g) _ (turn .wanted-by .ensures) (outer .inv .1 .1) _ (at .inv .0) none,
+      ),
+    )
+
+returns : tie.Need-returns Inv-window μ-window Inv-reached μ-reached Inv-receiver μ-receiver
+returns c =
+    let at = c .before .receiver in
+    rw (at .inv .1 .0) (λ g l h d. at .inv .1 .1 g (omega arith) l d)
+
+returns-2 : tie.Need-returns-2 Inv-window μ-window Inv-reached μ-reached Inv-receiver μ-receiver
+returns-2 c =
+    let inner = c .before .before .before .before .before .before in
+    let at = inner .before .before .before .before .before .before .before in
+    let turn = at .before .before .before .before in
+    let outer = turn .before .before .receiver in
+    let a = turn .before .before .before .before .before .args in
+    let low = c .before .before .before .before .lowest2 .ensures in
+    let gone = c .before .before .before .remove-lowest2 .ensures _ low in
+    let next = found _ _ _ _ _ _ _ _ _ _ (inner .window .inv .1) _ low _ _ _ gone in
+    let donor = next (c .before .before .minus2 .ensures) (c .before .intersect2 .ensures) (omega arith) (search needs) in
+    a-donor (a .kind) (a .scores) (a .graph) (a .seats) (outer .g) _ (turn .wanted-by .ensures) (outer .inv .1 .1) _ (at .reached .inv .0)
+    (turn .before .receiver-test .taken) (donor .0) (donor .1 .0) (donor .1 .1)
+
+pub first-receiver-spec : {M : Type 1} → statement M
+first-receiver-spec =
+    tie.close (tie.spec Inv-window μ-window Inv-reached μ-reached Inv-receiver μ-receiver
+    (λ c. search needs) (λ c κs. search needs) (λ c. search needs) (λ c. search needs) receiver-again
+    (λ c κs. search needs) (λ c κs. search needs) reached-holds (λ c. search needs) (λ c. search needs) receiver-again-2
+    (λ c κs. search needs) (λ c κs. search needs) (λ c. search needs)
+    (λ c. search needs) (λ c κs. search needs) (λ c κs. search needs) window-holds reached-less reached-again (λ c κs. search needs)
+    (λ c κs. search needs) mul-minus array-read-minus (λ c κs. search needs) (λ c κs. search needs) (λ c κs. search needs)
+    (λ c κs. search needs) window-less window-again (λ c. search needs) (λ c. search needs) receiver-again-3 returns returns-2)
