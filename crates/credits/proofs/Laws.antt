@@ -18,7 +18,7 @@ use Rattle.dayfile.proofs.Sound.{sound}
 use Rattle.dayfile.proofs.Accepted.{fits}
 use Rattle.marker.specs.declared.Marking.{Marking}
 use Rattle.marker.specs.declared.Numbers.{Numbers}
-use Rattle.marker.specs.Marking.{sheetIn, markFile, told, results, numbersOf, Marks}
+use Rattle.marker.specs.Marking.{markedSheet, markFile, told, results, numbersOf, Marks}
 use Rattle.marker.proofs.Theorems.{marks-says}
 use Rattle.credits.specs.declared.WriteResult.{WriteResult}
 use Rattle.credits.specs.Numbers.{InNumbers, writeNumbers}
@@ -40,12 +40,12 @@ unfolding markFile markLines sheetLines
 small f before after r m = rw (marks-says f before after r m) (go (firstOf (markLines f (length before))) refl)
   where
     go : (o : Option Refusal) → firstOf (markLines f (length before)) ≡ o →
-        Small (results (unless o (markOf (bookOf f) (sheetIn f))))
+        Small (results (unless o (markOf (bookOf f) (markedSheet f))))
     go (some q) e = tt
     go none e =
         let read = none-parts (readLines f) (markerLines f) (none-parts (sheetLines f) (bufferLines (length before) movesRoom) e .0) .0 in
         let fit = fits f (sound f read) in
-        let within = within-book (bookOf f) (sheetIn f) in (
+        let within = within-book (bookOf f) (markedSheet f) in (
           omega (arith, within .window, fit .windows-high),
           omega (arith, within .seat, fit .seats-high),
           omega (arith, within .moves, fit .seats-high),

@@ -1,13 +1,13 @@
 -- Paper 01, "The day file": its fields, its table of contents, and the book and the sheet that it holds. Entries count from 0.
 -- All of it is total: a byte past the file's end counts as 0.
 use mathlib.Core.Bool.{cond}
-use mathlib.Core.List.{List}
+use mathlib.Core.List.{List, []}
 use mathlib.Core.Option.{Option, some}
 use Prim.Native.Nat.{ℕ, _+_, _-_, _*_, _/_, _<_}
 use lib.Dec.{eqb}
 use lib.ListN.{getD}
 use Rattle.fairness.specs.Leximin.{table}
-use Rattle.model.specs.Lowest.{lowest, andThen}
+use Rattle.model.specs.Lowest.{lowest, andThen, getOr}
 use Rattle.model.specs.Book.{Book, Grid}
 
 -- a list of bytes
@@ -91,3 +91,7 @@ bookOf f =
 -- kind 4: the sheet, laid out as kind 3; it may be missing
 unfoldable pub sheetOf : List ℕ → Option Grid
 sheetOf f = andThen (entryOf f 4) (λ e. some (gridIn f e))
+
+-- the sheet marked: the file's kind 4 body
+abbrev pub markedSheet : List ℕ → Grid
+markedSheet f = getOr (sheetOf f) []

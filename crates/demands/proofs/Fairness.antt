@@ -23,7 +23,7 @@ use Rattle.dayfile.proofs.Lines.{none-holds}
 use Rattle.marker.specs.declared.Marking.{Marking}
 use Rattle.marker.specs.declared.Marking.the-variants.{Refused, Improvable, Tied, Settled}
 use Rattle.marker.specs.declared.Marking.the-variants as variants
-use Rattle.marker.specs.Marking.{sheetIn, told, Passing, Marks}
+use Rattle.marker.specs.Marking.{markedSheet, told, Passing, Marks}
 use Rattle.lawful.proofs.Taken.{book-is, sheet-in, none-hold}
 use Rattle.marker.proofs.Theorems as marker
 use Rattle.planner.specs.Planning.{Plans}
@@ -51,7 +51,7 @@ module _ (file : List ℕ) (b : Book) (s : Grid) (before after : List ℕ) (r : 
   the-book : bookOf file ≡ b
   the-book = book-is file b s (m .accepted)
 
-  the-sheet : sheetIn file ≡ s
+  the-sheet : markedSheet file ≡ s
   the-sheet = sheet-in file b s (m .accepted)
 
   pub passes-exactly : (xs : List Level) → HighestList b xs → Passing (told r) ↔ Equal NoHigher (profileOf b s) xs
@@ -89,7 +89,7 @@ module _ (file : List ℕ) (b : Book) (s : Grid) (before after : List ℕ) (r : 
           let said : told r ≡ answer (record { mark = 2; window = 0; seat = 0; moves = f .moves }) =
           answers ∙ ap (λ (k : Mark). answer (resultOf k)) e in
           let plays = marker.path-plays file before after r (m .marks) free (f .moves) (improvable-of r (f .moves) said) in
-          let here : Improves (bookOf file) (sheetIn file) (f .moves) after =
+          let here : Improves (bookOf file) (markedSheet file) (f .moves) after =
           record { possible = plays .0; lawful = plays .1; higher = plays .2 } in
           (f .moves, (said, rw (the-book, the-sheet) at here))
       go (tied f) e = absurd (failing (subst Passing (sym (answers ∙ ap (λ (k : Mark). answer (resultOf k)) e)) (inl refl)))

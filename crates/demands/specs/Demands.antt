@@ -24,7 +24,7 @@ use Rattle.dayfile.specs.Memory.{dayBook, daySheet, fileIn, front, written, rea
 use Rattle.listing.specs.Listing.{listingMax}
 use Rattle.listing.specs.Calls.{Listed, Lists}
 use Rattle.marker.specs.declared.Marking.{Marking}
-use Rattle.marker.specs.Marking.{sheetIn, told, BufferAfter, Marks, movesIn, Passing}
+use Rattle.marker.specs.Marking.{markedSheet, told, BufferAfter, Marks, movesIn, Passing}
 use Rattle.planner.specs.Planning.{Planned, Plans}
 
 -- ---- Demand 1: each call gives a defined outcome or a numbered refusal, and a refusal changes no byte.
@@ -41,8 +41,8 @@ pub record Demand1 : Type 0 where
   -- the marker's is the result of the mark that the rules give; marks 2 and 3 have their path at the buffer's front
   pub marker : (file before after : List ℕ) (r : Marking) → Marks file before after r →
       Defined (markLines file (length before)) before after (told r)
-      (λ x. (x ≡ resultOf (markOf (bookOf file) (sheetIn file)))
-      × BufferAfter (bookOf file) (sheetIn file) (answer (markOf (bookOf file) (sheetIn file))) before after)
+      (λ x. (x ≡ resultOf (markOf (bookOf file) (markedSheet file)))
+      × BufferAfter (bookOf file) (markedSheet file) (answer (markOf (bookOf file) (markedSheet file))) before after)
   -- the planner's is the planned file's length, and the file with a settled sheet stands at the buffer's front
   pub planner : (file before after : List ℕ) (r : Written) → Plans file before after r →
       Defined (planLines file (length before)) before after (written r)

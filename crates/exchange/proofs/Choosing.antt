@@ -67,7 +67,9 @@ self-unwanted kind scores g e =
     } in
     test-apart kind I (λ i w. 0) g (test-same I (λ i w. 0) scores scored kind g g (omega arith) (omega arith) ∙ e)
 
-module _ (kind : Kind) (scores : Scores) (graph : Graph) (seats g wanted : ℕ) (wants : (l : ℕ) → In l wanted ↔ Wants kind scores seats g l) where
+module _
+    (kind : Kind) (scores : Scores) (graph : Graph) (seats g wanted : ℕ) (wants : (l : ℕ) → In l wanted ↔ Wants kind scores seats g l)
+  where
   pub apart : bit wanted g ≡ 0
   apart = out-zero wanted g (λ p. self-unwanted kind scores g (wants g .0 p .1))
 

@@ -22,7 +22,7 @@ use Rattle.dayfile.specs.Table.{markerLines}
 use Rattle.dayfile.specs.Outcome.{NoneHolds}
 use Rattle.dayfile.proofs.Search.{offset-none}
 use Rattle.dayfile.proofs.Fields.{fields-length, fields-at, grid-cell, grid-shaped}
-use Rattle.lawful.specs.Firsts.{sheetIn}
+use Rattle.dayfile.specs.Layout.{markedSheet}
 
 -- what was found, if anything was
 some-of : {A : Type 0} (o : Option A) → when {A = ℕ} (not (isSome o)) 0 ≡ none → (x : A) × (o ≡ some x)
@@ -41,15 +41,15 @@ module _ (f : List ℕ) where
 
   -- the file has an entry of kind 4
   module _ (e : ℕ) (entry : entryOf f 4 ≡ some e) where
-    the-sheet : sheetIn f ≡ gridAt f (start f e) (seatsIn f) (windowsIn f)
+    the-sheet : markedSheet f ≡ gridAt f (start f e) (seatsIn f) (windowsIn f)
     unfolding sheetOf
     the-sheet = rw entry refl
 
-    pub entry-sheet : SheetOf (bookOf f) (sheetIn f)
+    pub entry-sheet : SheetOf (bookOf f) (markedSheet f)
     entry-sheet = rw (the-sheet, seats-in, windows-in) (grid-shaped f (start f e) (seatsIn f) (windowsIn f))
 
     -- a cell of the sheet, a cap and a supply, as fields of the file
-    sheet-cell : (i j : ℕ) → i < seatsIn f → j < windowsIn f → cell (sheetIn f) i j ≡ field f (cellAt f e (i * windowsIn f + j))
+    sheet-cell : (i j : ℕ) → i < seatsIn f → j < windowsIn f → cell (markedSheet f) i j ≡ field f (cellAt f e (i * windowsIn f + j))
     sheet-cell i j li lj = ap (λ (g : Grid). cell g i j) the-sheet ∙ grid-cell f (start f e) (seatsIn f) (windowsIn f) i j li lj
 
     cap-cell : (i j : ℕ) → i < seatsIn f → j < windowsIn f →
@@ -61,7 +61,7 @@ module _ (f : List ℕ) where
     unfolding bookOf
     supply-at j lj = fields-at f (start f 1) (windowsIn f) j lj
 
-    placed-at : (j : ℕ) → j < windowsIn f → sum (seatsIn f) (λ i. cell (sheetIn f) i j) ≡ placedIn f e j
+    placed-at : (j : ℕ) → j < windowsIn f → sum (seatsIn f) (λ i. cell (markedSheet f) i j) ≡ placedIn f e j
     placed-at j lj = sum-eq (seatsIn f) _ _ (λ i li. sheet-cell i j li lj)
 
     -- ---- lines 14 and 15 do not hold exactly where the sheet is lawful
@@ -72,7 +72,7 @@ module _ (f : List ℕ) where
     over : ℕ → Bool
     over j = ltb (field f (cellAt f 1 j)) (placedIn f e j)
 
-    pub lines-lawful : line14 f ≡ none → line15 f ≡ none → Lawful (bookOf f) (sheetIn f)
+    pub lines-lawful : line14 f ≡ none → line15 f ≡ none → Lawful (bookOf f) (markedSheet f)
     unfolding instanceOf line14 line15 above over
     lines-lawful h14 h15 =
         record {
@@ -80,19 +80,19 @@ module _ (f : List ℕ) where
           fits = λ j lj. fits j (rw windows-in at lj);
         }
       where
-        within : (i j : ℕ) → i < seatsIn f → j < windowsIn f → cell (sheetIn f) i j ≤ cell (bookOf f .caps) i j
+        within : (i j : ℕ) → i < seatsIn f → j < windowsIn f → cell (markedSheet f) i j ≤ cell (bookOf f .caps) i j
         within i j li lj =
             rw (sheet-cell i j li lj, cap-cell i j li lj)
             (ltb-false _ _
             (lowest-none (seatsIn f * windowsIn f) above (offset-none (cellAt f e) _ (rw entry at h14)) (i * windowsIn f + j)
             (digits-lt li lj)))
 
-        fits : (j : ℕ) → j < windowsIn f → sum (seats (bookOf f)) (λ i. cell (sheetIn f) i j) ≤ getD (bookOf f .supplies) j 0
+        fits : (j : ℕ) → j < windowsIn f → sum (seats (bookOf f)) (λ i. cell (markedSheet f) i j) ≤ getD (bookOf f .supplies) j 0
         fits j lj =
             rw (seats-in, supply-at j lj, placed-at j lj)
             (ltb-false _ _ (lowest-none (windowsIn f) over (offset-none (cellAt f 1) _ (rw entry at h15)) j lj))
 
-    pub lawful-lines : Lawful (bookOf f) (sheetIn f) → (line14 f ≡ none) × (line15 f ≡ none)
+    pub lawful-lines : Lawful (bookOf f) (markedSheet f) → (line14 f ≡ none) × (line15 f ≡ none)
     unfolding instanceOf line14 line15 above over
     lawful-lines h = (
       rw entry (ap (offset (cellAt f e)) (lowest-fails (seatsIn f * windowsIn f) above (λ k lk. le-ltb _ _ (below k lk)))),
@@ -128,9 +128,9 @@ module _ (f : List ℕ) where
         let e = has-entry .0 in
         (gridAt f (start f e) (seatsIn f) (windowsIn f), rw (has-entry .1) refl)
 
-    pub accepted-sheet : SheetOf (bookOf f) (sheetIn f)
+    pub accepted-sheet : SheetOf (bookOf f) (markedSheet f)
     accepted-sheet = entry-sheet (has-entry .0) (has-entry .1)
 
-    pub accepted-lawful : Lawful (bookOf f) (sheetIn f)
+    pub accepted-lawful : Lawful (bookOf f) (markedSheet f)
     unfolding markerLines
     accepted-lawful = lines-lawful (has-entry .0) (has-entry .1) (none-holds-here .1 .0) (none-holds-here .1 .1 .0)

@@ -14,7 +14,7 @@ use Rattle.dayfile.specs.Table.{movesRoom}
 use Rattle.dayfile.specs.Outcome.{answer, readFile, NoneHolds}
 use Rattle.dayfile.proofs.Answers.{answered}
 use Rattle.dayfile.proofs.Lines.{none-holds, none-first-of, on-after}
-use Rattle.lawful.specs.Firsts.{sheetIn}
+use Rattle.dayfile.specs.Layout.{markedSheet}
 use Rattle.lawful.proofs.Accepted.{entry-sheet, lawful-lines}
 
 -- a sheet stands in an entry of kind 4
@@ -33,14 +33,14 @@ module _ (f : List ℕ) (b : Book) (s : Grid) (read : readFile f ≡ answer (b, 
   sheet-is : sheetOf f ≡ some s
   sheet-is = ap (λ (p : Book × Option Grid). p .1) (says .1)
 
-  pub sheet-in : sheetIn f ≡ s
+  pub sheet-in : markedSheet f ≡ s
   sheet-in = ap (λ (o : Option Grid). getOr o []) sheet-is
 
   entry : (e : ℕ) × (entryOf f 4 ≡ some e)
   unfolding sheetOf
   entry = sheet-entry (entryOf f 4) (λ e. gridAt f (start f e) (seatsIn f) (windowsIn f)) s sheet-is
 
-  pub sheet-shape : SheetOf (bookOf f) (sheetIn f)
+  pub sheet-shape : SheetOf (bookOf f) (markedSheet f)
   sheet-shape = entry-sheet f (entry .0) (entry .1)
 
   module _ (lawful : Lawful b s) where

@@ -1,16 +1,11 @@
--- The sheet that is marked, and parts of the table's lines 14 and 15, of a body at a given place.
-use mathlib.Core.List.{List, []}
+-- Parts of the table's lines 14 and 15, of a body at a given place.
+use mathlib.Core.List.{List}
 use mathlib.Core.Option.{Option}
 use Prim.Native.Nat.{ℕ, _+_, _*_}
 use lib.Dec.{ltb}
-use Rattle.model.specs.Lowest.{lowest, getOr}
-use Rattle.model.specs.Book.{Grid}
-use Rattle.dayfile.specs.Layout.{field, windowsIn, sheetOf}
+use Rattle.model.specs.Lowest.{lowest}
+use Rattle.dayfile.specs.Layout.{field, windowsIn}
 use Rattle.dayfile.specs.Table.{offset, cellAt, placedIn}
-
--- the sheet marked: the file's kind 4 body
-abbrev pub sheetIn : List ℕ → Grid
-sheetIn f = getOr (sheetOf f) []
 
 -- the first of n fields from an offset on that is above the field with the same number from another offset on
 unfoldable pub firstAbove : List ℕ → ℕ → ℕ → ℕ → Option ℕ

@@ -1,2 +1,2 @@
--- The sheet that is marked, and parts of lines 14 and 15.
+-- What the contracts of this crate cite.
 pub mod Firsts

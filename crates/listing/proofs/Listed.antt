@@ -22,7 +22,7 @@ use Rattle.dayfile.proofs.Lines.{none-parts}
 use Rattle.dayfile.proofs.Sound.{sound}
 use Rattle.dayfile.proofs.Accepted.{fits}
 use Rattle.marker.specs.declared.Marking.{Marking}
-use Rattle.marker.specs.Marking.{sheetIn, markFile, told, results, PathWritten, BufferAfter, Marks}
+use Rattle.marker.specs.Marking.{markedSheet, markFile, told, results, PathWritten, BufferAfter, Marks}
 use Rattle.dayfile.specs.Memory.{cellsIn}
 use Rattle.marker.proofs.Theorems.{marks-says, marks-buffer}
 use Rattle.marker.proofs.Files.{book-read, sheet-read}
@@ -47,7 +47,7 @@ module _ (file moves written : List ℕ) (r : Marking) (room : length moves ≡ 
   says : told r ≡ results (markFile file movesRoom)
   says = rw room at (marks-says file moves written r marks)
 
-  kept : BufferAfter (bookOf file) (sheetIn file) (markFile file movesRoom) moves written
+  kept : BufferAfter (bookOf file) (markedSheet file) (markFile file movesRoom) moves written
   kept = rw room at (marks-buffer file moves written r marks)
 
   -- the file is refused
@@ -79,9 +79,9 @@ module _ (file moves written : List ℕ) (r : Marking) (room : length moves ≡ 
         go (answer m) is same = record { mark = m; is = is; result = cc }
 
     -- no line of the marker's holds, and the mark is that of the rules
-    lines-passed : (firstOf (markLines file movesRoom) ≡ none) × (markOf (bookOf file) (sheetIn file) ≡ told-mark .mark)
+    lines-passed : (firstOf (markLines file movesRoom) ≡ none) × (markOf (bookOf file) (markedSheet file) ≡ told-mark .mark)
     unfolding markFile
-    lines-passed = answered (firstOf (markLines file movesRoom)) (markOf (bookOf file) (sheetIn file)) (told-mark .mark) (told-mark .is)
+    lines-passed = answered (firstOf (markLines file movesRoom)) (markOf (bookOf file) (markedSheet file)) (told-mark .mark) (told-mark .is)
 
     passed : firstOf (sheetLines file) ≡ none
     unfolding markLines
@@ -93,16 +93,16 @@ module _ (file moves written : List ℕ) (r : Marking) (room : length moves ≡ 
 
     pub few : x .moves ≤ 31
     few =
-        let small = within-book (bookOf file) (sheetIn file) in
-        let result : x ≡ resultOf (markOf (bookOf file) (sheetIn file)) = told-mark .result ∙ ap resultOf (sym (lines-passed .1)) in
+        let small = within-book (bookOf file) (markedSheet file) in
+        let result : x ≡ resultOf (markOf (bookOf file) (markedSheet file)) = told-mark .result ∙ ap resultOf (sym (lines-passed .1)) in
         rw result (omega (arith, small .moves, fit .seats-high))
 
     module _ (before after : List ℕ) (n : ℕ)
         (printed : (ms : List Move) (rest : List ℕ) → written ≡ moveBytes ms ++ rest → x .moves ≡ length ms →
-        Printed before (listingOf (bookOf file) (sheetIn file) x ms) after n) where
+        Printed before (listingOf (bookOf file) (markedSheet file) x ms) after n) where
       -- with the moves of a mark
       marked-text : (m : Mark) → markFile file movesRoom ≡ answer m → x ≡ resultOf m → (ms : List Move) (rest : List ℕ) →
-          written ≡ moveBytes ms ++ rest → x .moves ≡ length ms → MovesOf (bookOf file) (sheetIn file) (answer m) ms →
+          written ≡ moveBytes ms ++ rest → x .moves ≡ length ms → MovesOf (bookOf file) (markedSheet file) (answer m) ms →
           Listed file before after n
       marked-text m is e ms rest stand count the-moves =
           record {
@@ -116,8 +116,8 @@ module _ (file moves written : List ℕ) (r : Marking) (room : length moves ≡ 
       no-moves = refl
 
       path-text : (m : Mark) (f : Found) → markFile file movesRoom ≡ answer m → x ≡ resultOf m → x .moves ≡ f .moves →
-          (path : PathWritten (bookOf file) (sheetIn file) f moves written) →
-          MovesOf (bookOf file) (sheetIn file) (answer m) (path .moves) → Listed file before after n
+          (path : PathWritten (bookOf file) (markedSheet file) f moves written) →
+          MovesOf (bookOf file) (markedSheet file) (answer m) (path .moves) → Listed file before after n
       unfolding front
       path-text m f is e count path the-moves =
           marked-text m is e (path .moves) _ (path .bytes) (count ∙ sym (path .count)) the-moves
@@ -129,7 +129,7 @@ module _ (file moves written : List ℕ) (r : Marking) (room : length moves ≡ 
           moves-of m e = ap (λ (y : Result). y .moves) e
 
           go : (m : Mark) → markFile file movesRoom ≡ answer m → x ≡ resultOf m →
-              BufferAfter (bookOf file) (sheetIn file) (answer m) moves written → Listed file before after n
+              BufferAfter (bookOf file) (markedSheet file) (answer m) moves written → Listed file before after n
           go (wasteful j i) is e kept′ = marked-text (wasteful j i) is e [] written no-moves (moves-of (wasteful j i) e) refl
           go (improvable f) is e kept′ =
               path-text (improvable f) f is e (moves-of (improvable f) e) kept′ (kept′ .path, kept′ .count)

@@ -12,7 +12,7 @@ use Rattle.dayfile.specs.Layout.{bookOf}
 use Rattle.dayfile.specs.Table.{bufferLines, movesRoom}
 use Rattle.dayfile.specs.Outcome.{Outcome, turnedAway, answer, Defined}
 use Rattle.dayfile.specs.Memory.{written}
-use Rattle.marker.specs.Marking.{sheetIn, markFile}
+use Rattle.marker.specs.Marking.{markedSheet, markFile}
 use Rattle.listing.specs.Listing.{listingOf, refusalLine, listingMax, Printed}
 
 -- the text of what the marker answers, with the moves that it writes
@@ -31,8 +31,8 @@ MovesOf b s (answer settled) moves = moves ≡ []
 -- the text with the moves of such a path stands at the buffer's front, the bytes after it keep their values, and the text's length is given
 pub record Listed (file before after : List ℕ) (n : ℕ) : Type 0 where
   pub moves : List Move
-  pub the-moves : MovesOf (bookOf file) (sheetIn file) (markFile file movesRoom) moves
-  pub printed : Printed before (textOf (bookOf file) (sheetIn file) (markFile file movesRoom) moves) after n
+  pub the-moves : MovesOf (bookOf file) (markedSheet file) (markFile file movesRoom) moves
+  pub printed : Printed before (textOf (bookOf file) (markedSheet file) (markFile file movesRoom) moves) after n
 
 -- the contract of the listing: only a buffer that is shorter than the longest listing is refused, with line 16; a file that the marker
 -- refuses has a text as well

@@ -26,9 +26,6 @@ use sums::sums_of;
 // A buffer of this length takes every listing.
 pub const LISTING_MAX: usize = 3453;
 
-// A buffer of this length takes every refusal.
-pub const REFUSAL_MAX: usize = 53;
-
 // A whole listing at the buffer's front; returns its length. The moves of marks 2 and 3 come as the marker writes them.
 pub fn put_listing(out: &mut [u8], book: Book, sums: Sums, result: Numbers, moves: &[u8]) -> usize
     requires { ⌜ listingMax ≤ length (now out) ⌝ }

@@ -49,13 +49,13 @@ module _ (f : List ℕ) (r : Reading) (reads : Reads f r) (passed : firstOf (she
   pub fit-read : Fit (bookOf f)
   fit-read = fits f (sound f (sheet-parts .0))
 
-  pub sheet-read : cellsIn (r .day .book) (r .day .sheet) ≡ marking.sheetIn f
+  pub sheet-read : cellsIn (r .day .book) (r .day .sheet) ≡ marking.markedSheet f
   sheet-read =
       let s = has-sheet-of f (none-holds (markerLines f) (sheet-parts .1)) in
       cells-of (r .day .book) (r .day .«has_sheet») (r .day .sheet) (s .0) (read-day f r reads (sheet-parts .0) .1 ∙ s .1)
       ∙ ap (λ (o : Option Grid). getOr o []) (sym (s .1))
 
-  pub lawful-read : Lawful (bookOf f) (marking.sheetIn f)
+  pub lawful-read : Lawful (bookOf f) (marking.markedSheet f)
   lawful-read = accepted-lawful f (none-holds (markerLines f) (sheet-parts .1))
 
 -- a refusal
@@ -79,7 +79,7 @@ module _ (f before : List ℕ) (passed : firstOf (markLines f (length before)) �
     book-is : bookIn (r .day .book) caps ≡ bookOf f
     book-is = ap (bookIn (r .day .book)) caps-are ∙ book-read f r reads (parts .0)
 
-    sheet-is : cellsIn (r .day .book) (r .day .sheet) ≡ marking.sheetIn f
+    sheet-is : cellsIn (r .day .book) (r .day .sheet) ≡ marking.markedSheet f
     sheet-is = sheet-read f r reads (parts .0)
 
     pub markable : Markable (r .day .book) caps (r .day .sheet)
@@ -95,6 +95,6 @@ module _ (f before : List ℕ) (passed : firstOf (markLines f (length before)) �
         (markOf (bookIn (r .day .book) caps) (cellsIn (r .day .book) (r .day .sheet))) before after x →
         Marks f before after x
     marked-marks after x h =
-        let m : MarkedAs (bookOf f) (marking.sheetIn f) (markOf (bookOf f) (marking.sheetIn f)) before after x =
+        let m : MarkedAs (bookOf f) (marking.markedSheet f) (markOf (bookOf f) (marking.markedSheet f)) before after x =
         rw (book-is, sheet-is) at h in
-        defined-answer (resultOf (markOf (bookOf f) (marking.sheetIn f))) passed (m .says) (refl, m .buffer)
+        defined-answer (resultOf (markOf (bookOf f) (marking.markedSheet f))) passed (m .says) (refl, m .buffer)

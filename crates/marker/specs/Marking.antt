@@ -12,14 +12,14 @@ use Rattle.dayfile.specs.Layout.{bookOf}
 use Rattle.dayfile.specs.Table.{refuse, markLines}
 use Rattle.dayfile.specs.Outcome.{Outcome, turnedAway, answer, outcome, Defined}
 use Rattle.dayfile.specs.Memory.{front}
-pub use Rattle.lawful.specs.Firsts.{sheetIn}
+pub use Rattle.dayfile.specs.Layout.{markedSheet}
 use Rattle.marker.specs.declared.Numbers.{Numbers}
 use Rattle.marker.specs.declared.Marking.{Marking}
 use Rattle.marker.specs.declared.Marking.the-variants.{Refused, Wasteful, Improvable, Tied, Settled}
 
 -- the mark of a file, or its refusal, where the output buffer has `room` bytes
 unfoldable pub markFile : List ℕ → ℕ → Outcome Mark
-markFile f room = outcome (markLines f room) (markOf (bookOf f) (sheetIn f))
+markFile f room = outcome (markLines f room) (markOf (bookOf f) (markedSheet f))
 
 -- ---- the answer: paper 01's numbers and values of each case
 
@@ -71,8 +71,8 @@ BufferAfter b s (answer settled) before after = after ≡ before
 abbrev pub Marks : (file before after : List ℕ) → Marking → Type 0
 Marks file before after r =
     Defined (markLines file (length before)) before after (told r)
-    (λ x. (x ≡ resultOf (markOf (bookOf file) (sheetIn file)))
-    × BufferAfter (bookOf file) (sheetIn file) (answer (markOf (bookOf file) (sheetIn file))) before after)
+    (λ x. (x ≡ resultOf (markOf (bookOf file) (markedSheet file)))
+    × BufferAfter (bookOf file) (markedSheet file) (answer (markOf (bookOf file) (markedSheet file))) before after)
 
 -- the sheet passes: the answer is mark 3 or 4
 abbrev pub Passing : Outcome Result → Type 0

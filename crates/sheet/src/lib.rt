@@ -114,7 +114,7 @@ impl Sheet {
     }
 
     // The cells as a bare array of arrays.
-    pub fn to_grid(self) -> [[u16; 24]; 32]
+    pub fn to_grid(self) -> Caps
         ensures { λ r. ⌜ r ≡ gridOf self ⌝ }
     {
         let mut grid = [[0u16; 24]; 32];
@@ -127,7 +127,7 @@ impl Sheet {
     }
 
     // The sheet with the cells of a bare array of arrays.
-    pub fn from_grid(grid: [[u16; 24]; 32]) -> Sheet
+    pub fn from_grid(grid: Caps) -> Sheet
         ensures { λ r. ⌜ gridOf r ≡ grid ⌝ }
     {
         let mut sheet = Sheet::zero();

@@ -2,8 +2,7 @@
 ghost use mathlib.Core.Path.{_≡_};
 ghost use Prim.Native.Nat.{_≤_};
 ghost use lib.ListN.{length};
-ghost use Rattle.dayfile.specs.Table.{writeLines};
-ghost use Rattle.dayfile.specs.Memory.{fileIn, front, Writes};
+ghost use Rattle.dayfile.specs.Memory.{fileIn, front, WritesDay};
 ghost use Rattle.dayfile.specs.declared.Day.{Day};
 ghost use Rattle.writer.specs.Stores.{Of};
 use bodies::put_book;
@@ -45,7 +44,7 @@ pub fn put_file(out: &mut [u8], day: Day) -> usize
 
 // The file at the front of any buffer, or the refusal.
 pub fn write(out: &mut [u8], day: Day) -> Written
-    ensures { λ r. ⌜ Writes (writeLines (fileIn day)) (fileIn day) (now (out .entry)) (now (out .exit)) r ⌝ }
+    ensures { λ r. ⌜ WritesDay day (now (out .entry)) (now (out .exit)) r ⌝ }
 {
     if let Check::Refused { number, at } = check_day(day) {
         return Written::Refused { number, at };
