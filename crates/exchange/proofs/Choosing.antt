@@ -4,7 +4,7 @@ use mathlib.Core.Bool.{true, false, true≢false}
 use mathlib.Core.Logic.{_↔_}
 use mathlib.Core.List.{List, [], _∷_}
 use Prim.Native.Nat.{ℕ, _+_, min, _<_, _≤_}
-use native.Mathlib.Decide.{ℕ-discrete, decLt}
+use native.Mathlib.Decide.{decLt}
 use native.Mathlib.Omega.{arith}
 use lib.ListN.{length, getD}
 use Rattle.fairness.specs.Sums.{sum}
@@ -67,9 +67,8 @@ self-unwanted kind scores g e =
     } in
     test-apart kind I (λ i w. 0) g (test-same I (λ i w. 0) scores scored kind g g (omega arith) (omega arith) ∙ e)
 
-module _
-    (kind : Kind) (scores : Scores) (graph : Graph) (seats g wanted : ℕ) (wants : (l : ℕ) → In l wanted ↔ Wants kind scores seats g l)
-  where
+module _ (kind : Kind) (scores : Scores) (graph : Graph) (seats g wanted : ℕ)
+    (wants : (l : ℕ) → In l wanted ↔ Wants kind scores seats g l) where
   pub apart : bit wanted g ≡ 0
   apart = out-zero wanted g (λ p. self-unwanted kind scores g (wants g .0 p .1))
 
@@ -77,20 +76,9 @@ module _
   pub none-wanted : wanted ≡ 0 → (l : ℕ) → Donor kind scores graph seats g l → ⊥
   none-wanted z l d = omega (arith, rw z at (wants l .1 (d .1)), bit-zero l)
 
-  -- no receiver before g has a donor; g′ is g in the search
-  module _ (earlier : (h : ℕ) → h < g → (l : ℕ) → Donor kind scores graph seats h l → ⊥) (g′ : ℕ) (e : g′ ≡ g) where
-    -- nor has g
-    pub no-donor : ((l : ℕ) → Reached graph g′ l → In l wanted → ⊥) → (h : ℕ) → h < g′ + 1 → (l : ℕ) → Donor kind scores graph seats h l → ⊥
-    no-donor none h b l d =
-        elim (ℕ-discrete h g) [
-          | yes q ↦ let here : Donor kind scores graph seats g l = rw q at d in none l (rw e (here .0)) (wants l .1 (here .1))
-          | no q ↦ earlier h (omega arith) l d
-        ]
-
-    -- g has one
-    pub a-donor : g < seats → (l : ℕ) → Reached graph g′ l → In l wanted → First kind scores graph seats g′
-    a-donor seat l p w =
-        rw e (record { seat = seat; some = (l, (rw e at p, wants l .0 w)); earlier = λ h k b d. earlier h b k d })
+  -- nobody is reached who is wanted
+  pub none-reached : ((l : ℕ) → Reached graph g l → In l wanted → ⊥) → (l : ℕ) → Donor kind scores graph seats g l → ⊥
+  none-reached none l d = none l (d .0) (wants l .1 (d .1))
 
   module _ (reached both : ℕ) (reaches : (l : ℕ) → In l reached ↔ Reached graph g l)
       (shared : (l : ℕ) → bit both l ≡ min (bit wanted l) (bit reached l)) (f : First kind scores graph seats g) where

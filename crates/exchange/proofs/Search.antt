@@ -86,25 +86,17 @@ module _ (graph : Graph) (g wanted : ℕ) where
         → 32 + sizeOf front″ - sizeOf seen″ < 32 + sizeOf front - sizeOf seen
     taken-less seen″ front″ e = omega (arith, removed-shrinks front k front′ (low .small) (low .here) r, size-le seen, size-le seen″)
 
-  module _ (seen front windows : ℕ) (s : Seen graph g wanted seen front windows 0) where
-    -- whoever was seen has room in windows alone that were looked into: all that g reaches was seen
-    module _ (shut : (k w : ℕ) → In k seen → In w (setAt (graph .rooms) k) → bit windows w ≡ 0) where
-      all-seen : (r l : ℕ) → Reach graph r g l → In l seen
-      all-seen zero l e = rw (← e) (s .start)
-      all-seen (suc r) l (inl p) = all-seen r l p
-      all-seen (suc r) l (inr (k, (p, t))) =
-          s .shut (t .via) l (shut k (t .via) (all-seen r k p) (t .here .member)) (bit-zero (t .via)) (t .here .leads)
+  -- nothing is in front any more: all that g reaches was seen
+  module _ (seen front windows : ℕ) (s : Seen graph g wanted seen front windows 0) (empty : front ≡ 0) where
+    all-seen : (r l : ℕ) → Reach graph r g l → In l seen
+    all-seen zero l e = rw (← e) (s .start)
+    all-seen (suc r) l (inl p) = all-seen r l p
+    all-seen (suc r) l (inr (k, (p, t))) =
+        let shut = s .led k (t .via) (all-seen r k p) (rw empty (bit-zero k)) (t .here .member) in
+        s .shut (t .via) l shut (bit-zero (t .via)) (t .here .leads)
 
-      none : (l : ℕ) → Reached graph g l → In l wanted → ⊥
-      none l p w = omega (arith, s .fails l (all-seen (p .0) l (p .1)))
-
-    -- so it is where nothing is in front any more
-    pub last : front ≡ 0 → (l : ℕ) → Reached graph g l → In l wanted → ⊥
-    last empty = none (λ k w p m. s .led k w p (rw empty (bit-zero k)) m)
-
-    -- and where all windows were looked into
-    pub no-window : windows ≡ 0 → (l : ℕ) → Reached graph g l → In l wanted → ⊥
-    no-window empty = none (λ k w p m. rw empty (bit-zero w))
+    pub last : (l : ℕ) → Reached graph g l → In l wanted → ⊥
+    last l p w = omega (arith, s .fails l (all-seen (p .0) l (p .1)))
 
   -- ---- the loop over windows
 

@@ -198,9 +198,6 @@ fn first_receiver(kind: Kind, scores: Scores, graph: Graph, seats: usize) -> Rec
         let mut front = seen;
         let mut windows = masks::full(24);
         'reached: while front != 0 {
-            if windows == 0 {
-                continue 'receiver;
-            }
             let k = masks::lowest(front);
             front = masks::remove_lowest(front);
             let mut left = masks::intersect(rooms[k], windows);
