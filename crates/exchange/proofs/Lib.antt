@@ -1,7 +1,7 @@
 -- The laws that the functions' proofs cite.
 pub mod Heights
 pub mod Drawing
-pub mod Routes
+pub mod Walking
 pub mod Bridge
 pub mod Choosing
 pub mod Search

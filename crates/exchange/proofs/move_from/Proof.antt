@@ -6,7 +6,7 @@ use native.Mathlib.Omega.{arith}
 use lib.ListN.{length}
 use Rattle.masks.proofs.Laws.{in-pos}
 use Rattle.reach.proofs.Members.{at-small}
-use Rattle.exchange.proofs.Routes.{gives-meets, meets-leads}
+use Rattle.exchange.proofs.Walking.{gives-meets, meets-leads}
 use Rattle.exchange.proofs.move_from.Statement.{statement}
 use Rattle.exchange.proofs.move_from.Tie as tie
 

@@ -10,7 +10,7 @@ use Rattle.lists.proofs.Alls.{taken-length}
 use Rattle.sheet.specs.Sheets.{moveOf}
 use Rattle.masks.proofs.Laws.{in-small}
 use Rattle.reach.specs.Graphs.{setAt, Fewest}
-use Rattle.exchange.proofs.Routes.{Walk, back, back-fewest, step-back, stored-none, walked}
+use Rattle.exchange.proofs.Walking.{Walk, back, back-fewest, step-back, stored-none, walked}
 use Rattle.exchange.proofs.moves_to.Statement.{statement}
 use Rattle.exchange.proofs.moves_to.Tie as tie
 
