@@ -2,7 +2,7 @@
  *
  * A day file holds a book (the seats' classes, the windows' supplies, a cap for each seat in each window) and perhaps a sheet (credits
  * for each seat in each window). The calls read one, write one, mark its sheet, plan the fairest sheet, and list it as text. What each
- * call does is proved for every file, every book and every buffer; the contracts are in crates/credits/specs/Numbers.antt.
+ * call does is proved for every file, every book and every buffer; the contracts are in crates/credits/specs/Calls.antt.
  *
  * What a caller owes, for every call:
  *   - A pointer points to as many bytes as the length after it says. They may be read, and written where it is not const. With length 0

@@ -2,10 +2,10 @@
 use mathlib.Core.Path.{_≡_, refl}
 use mathlib.Core.List.{List}
 use mathlib.Core.Option.{Option, none, some}
-use Prim.Native.Nat.{ℕ, _≤_, zero-le}
+use Prim.Native.Nat.{ℕ, _≤_}
 use native.Mathlib.Omega.{arith}
 use lib.ListN.{length}
-use Rattle.model.specs.Marks.{Result, markOf}
+use Rattle.model.specs.Marks.{markOf}
 use Rattle.model.proofs.Marks.{within-book}
 use Rattle.dayfile.specs.Layout.{bookOf}
 use Rattle.dayfile.specs.Table.{Refusal, firstOf, readLines, markerLines, sheetLines, bufferLines, markLines, movesRoom}
@@ -17,22 +17,17 @@ use Rattle.dayfile.proofs.Lines.{none-parts}
 use Rattle.dayfile.proofs.Sound.{sound}
 use Rattle.dayfile.proofs.Accepted.{fits}
 use Rattle.marker.specs.declared.Marking.{Marking}
-use Rattle.marker.specs.declared.Numbers.{Numbers}
-use Rattle.marker.specs.Marking.{markedSheet, markFile, told, results, numbersOf, Marks}
+use Rattle.marker.specs.Marking.{markedSheet, markFile, told, results, Marks}
 use Rattle.marker.proofs.Theorems.{marks-says}
-use Rattle.credits.specs.declared.WriteResult.{WriteResult}
-use Rattle.credits.specs.Numbers.{InNumbers, writeNumbers}
-use Rattle.credits.specs.Steps.{Small}
+use Rattle.numbers.specs.declared.WriteResult.{WriteResult}
+use Rattle.numbers.specs.Numbers.{writeNumbers}
+use Rattle.numbers.specs.Steps.{Small}
+use Rattle.credits.specs.Calls.{InNumbers}
 
 -- the writer is given a day that is another's
 pub writes-as : {d e : Day} {before after : List ℕ} (w : Written) {r : WriteResult} → d ≡ e → WritesDay d before after w →
     r ≡ writeNumbers w → InNumbers writeNumbers (WritesDay e before after) r
 writes-as w p h is = record { answers = w; meets = rw p at h; says = is }
-
--- an answer's numbers in memory
-pub small-numbers : (o : Outcome Result) (n : Numbers) → Small o → n ≡ numbersOf o → (n .window ≤ 32) × (n .seat ≤ 32) × (n .moves ≤ 32)
-small-numbers (turnedAway q) n s e = rw e (zero-le, zero-le, zero-le)
-small-numbers (answer r) n s e = rw e s
 
 -- whatever the marker answers for a file and a buffer is small
 pub small : (f before after : List ℕ) (r : Marking) → Marks f before after r → Small (told r)

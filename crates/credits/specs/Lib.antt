@@ -1,3 +1,2 @@
--- What crosses to C, and what the exported calls promise of it.
-pub mod Numbers
-pub mod Steps
+-- What the exported calls promise.
+pub mod Calls

@@ -1,4 +1,4 @@
--- What the parts of the exported calls hand to each other.
+-- What is asked of an answer before it becomes numbers of 32 bits.
 use Prim.Native.Nat.{ℕ, _≤_}
 use Rattle.model.specs.Marks.{Result}
 use Rattle.dayfile.specs.Outcome.{Outcome, turnedAway, answer}

@@ -2,10 +2,10 @@
 use mathlib.Core.Bool.{Bool}
 use mathlib.Core.Path.{ap, sym}
 use Rattle.dayfile.specs.declared.Day.{Day}
-use Rattle.credits.specs.declared.CreditsBook.{CreditsBook}
-use Rattle.credits.specs.Numbers.{bookFrom}
-use Rattle.credits.proofs.CreditsBook.of.Statement.{statement}
-use Rattle.credits.proofs.CreditsBook.of.Tie as tie
+use Rattle.numbers.specs.declared.CreditsBook.{CreditsBook}
+use Rattle.numbers.specs.Numbers.{bookFrom}
+use Rattle.numbers.proofs.CreditsBook.of.Statement.{statement}
+use Rattle.numbers.proofs.CreditsBook.of.Tie as tie
 
 -- whether there is a sheet, found out
 abbrev told : Day → Bool → CreditsBook

@@ -1,31 +1,21 @@
--- What crosses to C: each answer in paper 01's numbers and values, and the contract of each exported call. A refusal is its number and its
--- offset, both 0 where there is none; at a refusal every other number is 0.
+-- What crosses to C: each answer in paper 01's numbers and values. A refusal is its number and its offset, both 0 where there is none; at a
+-- refusal every other number is 0.
 use mathlib.Core.Bool.{Bool, true, false, not}
-use mathlib.Core.List.{List}
-use mathlib.Core.Path.{_≡_}
 use Prim.Native.Nat.{ℕ}
 use lib.Dec.{eqb}
 use Rattle.dayfile.specs.Outcome.{Outcome, turnedAway, answer}
-use Rattle.dayfile.specs.Memory.{written, Reads, WritesDay}
+use Rattle.dayfile.specs.Memory.{written}
 use Rattle.dayfile.specs.declared.Check as Check
 use Rattle.dayfile.specs.declared.Day.{Day}
 use Rattle.dayfile.specs.declared.Reading.{Reading}
 use Rattle.dayfile.specs.declared.Written.{Written}
 use Rattle.marker.specs.declared.Marking.{Marking}
 use Rattle.marker.specs.declared.Numbers.{Numbers}
-use Rattle.marker.specs.Marking.{told, numbersOf, Marks}
-use Rattle.planner.specs.Planning.{Plans}
-use Rattle.listing.specs.Calls.{Lists}
-use Rattle.credits.specs.declared.CreditsBook.{CreditsBook}
-use Rattle.credits.specs.declared.ReadResult.{ReadResult}
-use Rattle.credits.specs.declared.MarkResult.{MarkResult}
-use Rattle.credits.specs.declared.WriteResult.{WriteResult}
-
--- the contract of an exported call: the result is, in numbers, an answer that meets the contract of the call behind it
-pub record InNumbers {A R : Type 0} (numbers : A → R) (Contract : A → Type 0) (r : R) : Type 0 where
-  pub answers : A
-  pub meets : Contract answers
-  pub says : r ≡ numbers answers
+use Rattle.marker.specs.Marking.{told, numbersOf}
+use Rattle.numbers.specs.declared.CreditsBook.{CreditsBook}
+use Rattle.numbers.specs.declared.ReadResult.{ReadResult}
+use Rattle.numbers.specs.declared.MarkResult.{MarkResult}
+use Rattle.numbers.specs.declared.WriteResult.{WriteResult}
 
 -- ---- books
 
@@ -81,25 +71,3 @@ markAs n =
 
 abbrev pub markNumbers : Marking → MarkResult
 markNumbers m = markAs (numbersOf (told m))
-
--- ---- the contracts
-
--- credits_read
-abbrev pub ReadsAs : (file : List ℕ) → ReadResult → Type 0
-ReadsAs file r = InNumbers readNumbers (Reads file) r
-
--- credits_write
-abbrev pub WritesAs : CreditsBook → (before after : List ℕ) → WriteResult → Type 0
-WritesAs c before after r = InNumbers writeNumbers (WritesDay (dayFrom c) before after) r
-
--- credits_mark
-abbrev pub MarksAs : (file before after : List ℕ) → MarkResult → Type 0
-MarksAs file before after r = InNumbers markNumbers (Marks file before after) r
-
--- credits_plan
-abbrev pub PlansAs : (file before after : List ℕ) → WriteResult → Type 0
-PlansAs file before after r = InNumbers writeNumbers (Plans file before after) r
-
--- credits_listing
-abbrev pub ListsAs : (file before after : List ℕ) → WriteResult → Type 0
-ListsAs file before after r = InNumbers writeNumbers (Lists file before after) r

@@ -2,10 +2,10 @@
 use mathlib.Core.Path.{ap}
 use borrow.Author.Needs.{needs}
 use Rattle.marker.specs.Marking.{told}
-use Rattle.credits.specs.Numbers.{markAs}
-use Rattle.credits.proofs.Laws.{small-numbers}
-use Rattle.credits.proofs.MarkResult.of.Statement.{statement}
-use Rattle.credits.proofs.MarkResult.of.Tie as tie
+use Rattle.numbers.specs.Numbers.{markAs}
+use Rattle.numbers.proofs.Laws.{small-numbers}
+use Rattle.numbers.proofs.MarkResult.of.Statement.{statement}
+use Rattle.numbers.proofs.MarkResult.of.Tie as tie
 
 cast-t5 : tie.Need-cast-t5
 cast-t5 c =

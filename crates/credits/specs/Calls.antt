@@ -1,0 +1,39 @@
+-- What the exported calls promise: the contracts of the calls behind them, in the numbers that cross to C.
+use mathlib.Core.List.{List}
+use mathlib.Core.Path.{_≡_}
+use Prim.Native.Nat.{ℕ}
+use Rattle.dayfile.specs.Memory.{Reads, WritesDay}
+use Rattle.marker.specs.Marking.{Marks}
+use Rattle.planner.specs.Planning.{Plans}
+use Rattle.listing.specs.Calls.{Lists}
+use Rattle.numbers.specs.declared.CreditsBook.{CreditsBook}
+use Rattle.numbers.specs.declared.ReadResult.{ReadResult}
+use Rattle.numbers.specs.declared.MarkResult.{MarkResult}
+use Rattle.numbers.specs.declared.WriteResult.{WriteResult}
+use Rattle.numbers.specs.Numbers.{dayFrom, readNumbers, writeNumbers, markNumbers}
+
+-- the contract of an exported call: the result is, in numbers, an answer that meets the contract of the call behind it
+pub record InNumbers {A R : Type 0} (numbers : A → R) (Contract : A → Type 0) (r : R) : Type 0 where
+  pub answers : A
+  pub meets : Contract answers
+  pub says : r ≡ numbers answers
+
+-- credits_read
+abbrev pub ReadsAs : (file : List ℕ) → ReadResult → Type 0
+ReadsAs file r = InNumbers readNumbers (Reads file) r
+
+-- credits_write
+abbrev pub WritesAs : CreditsBook → (before after : List ℕ) → WriteResult → Type 0
+WritesAs c before after r = InNumbers writeNumbers (WritesDay (dayFrom c) before after) r
+
+-- credits_mark
+abbrev pub MarksAs : (file before after : List ℕ) → MarkResult → Type 0
+MarksAs file before after r = InNumbers markNumbers (Marks file before after) r
+
+-- credits_plan
+abbrev pub PlansAs : (file before after : List ℕ) → WriteResult → Type 0
+PlansAs file before after r = InNumbers writeNumbers (Plans file before after) r
+
+-- credits_listing
+abbrev pub ListsAs : (file before after : List ℕ) → WriteResult → Type 0
+ListsAs file before after r = InNumbers writeNumbers (Lists file before after) r

@@ -1,0 +1,4 @@
+-- What crosses to C.
+pub mod Numbers
+-- What the parts hand to each other.
+pub mod Steps
