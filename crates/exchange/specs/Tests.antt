@@ -9,7 +9,7 @@ use Rattle.search.specs.declared.Scores.{Scores}
 use Rattle.search.specs.declared.Kind.{Kind}
 use Rattle.search.specs.declared.Kind.the-variants.{None, Improving, WronglyTied}
 
--- the test of a receiver and a donor, on an instance and a sheet
+-- the test of a receiver and a donor: paper 01's mark 2 asks for paths that improve, mark 3 for paths that tie wrongly
 abbrev pub testOf : Kind → Instance → Sheet → ℕ → ℕ → Bool
 testOf None I S g l = false
 testOf Improving I S g l = improvesAt I S g l

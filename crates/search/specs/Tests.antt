@@ -10,7 +10,7 @@ use Rattle.search.specs.declared.Scores.{Scores}
 use Rattle.search.specs.declared.Kind.{Kind}
 use Rattle.search.specs.declared.Kind.the-variants.{None, Improving, WronglyTied}
 
--- the test of a receiver and a donor by their scores: paper 01's mark 2 asks for paths that improve, mark 3 for paths that tie wrongly
+-- the test of a receiver and a donor by their scores: for a path that improves, and for one that ties wrongly
 abbrev pub testBy : Kind → Score → Score → Bool
 testBy None r d = false
 testBy Improving r d = improves (r .height) (r .weight) (d .height) (d .weight)
