@@ -19,7 +19,7 @@ use Rattle.instance.specs.declared.Terms.{Terms}
 use Rattle.instance.specs.Terms.{Told, Shows}
 use Rattle.reach.specs.declared.Graph.{Graph}
 use Rattle.reach.specs.Graphs.{setAt, Rows, Leads}
-use Rattle.exchange.specs.Steps.{Drawn}
+use Rattle.search.specs.Steps.{Drawn}
 
 -- ---- a further holder
 

@@ -13,14 +13,15 @@ use Rattle.instance.specs.declared.Terms.{Terms}
 use Rattle.instance.specs.Terms.{instanceIn, Told, Shows, Ranged}
 use Rattle.instance.proofs.Told.{told-in, shows-itself}
 use Rattle.reach.specs.declared.Graph.{Graph}
-use Rattle.exchange.specs.declared.ExchangePath.{ExchangePath}
-use Rattle.exchange.specs.declared.Scores.{Scores}
-use Rattle.exchange.specs.declared.Kind.{Kind}
-use Rattle.exchange.specs.declared.Kind.the-variants.{None, Improving, WronglyTied}
-use Rattle.exchange.specs.declared.Pair.the-variants.{Nobody}
-use Rattle.exchange.specs.Paths.{movesOf, InByte, Writable, Chosen, Answers}
+use Rattle.search.specs.declared.ExchangePath.{ExchangePath}
+use Rattle.search.specs.declared.Scores.{Scores}
+use Rattle.search.specs.declared.Kind.{Kind}
+use Rattle.search.specs.declared.Kind.the-variants.{None, Improving, WronglyTied}
+use Rattle.search.specs.declared.Pair.the-variants.{Nobody}
+use Rattle.search.specs.Paths.{movesOf}
+use Rattle.search.specs.Steps.{Drawn, FirstPair, Firsts, Nearest}
+use Rattle.exchange.specs.Paths.{InByte, Writable, Chosen, Answers}
 use Rattle.exchange.specs.Tests.{testOf, Scored}
-use Rattle.exchange.specs.Steps.{Drawn, FirstPair, Firsts, Nearest}
 use Rattle.exchange.proofs.Choosing.{chosen, nobody}
 
 -- ---- it can be written

@@ -15,8 +15,9 @@ use Rattle.sheet.proofs.Sums.{sum-bound}
 use Rattle.instance.specs.declared.Terms.{Terms}
 use Rattle.instance.specs.Terms.{instanceIn, Told, Shows, Small}
 use Rattle.instance.proofs.Told.{feasible-small}
-use Rattle.exchange.specs.declared.Scores.{Scores}
-use Rattle.exchange.specs.Tests.{Scored, Bounded}
+use Rattle.search.specs.declared.Scores.{Scores}
+use Rattle.search.specs.Tests.{Bounded}
+use Rattle.exchange.specs.Tests.{Scored}
 
 -- the first k heights are known
 abbrev pub Known : Sheet → ℕ → ℕ → List ℕ → List ℕ → ℕ → List ℕ → Type 0

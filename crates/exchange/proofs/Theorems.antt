@@ -11,10 +11,11 @@ use Rattle.model.specs.Book.{Book, Grid, cell, instanceOf}
 use Rattle.model.specs.Search.{Found, search, Picked}
 use Rattle.model.proofs.Meaning.{search-some, search-none}
 use Rattle.model.proofs.Tests.{not-true}
-use Rattle.exchange.specs.declared.ExchangePath.{ExchangePath}
-use Rattle.exchange.specs.declared.Kind.{Kind}
-use Rattle.exchange.specs.declared.Kind.the-variants.{None, Improving, WronglyTied}
-use Rattle.exchange.specs.Paths.{movesOf, Chosen, Answers}
+use Rattle.search.specs.declared.ExchangePath.{ExchangePath}
+use Rattle.search.specs.declared.Kind.{Kind}
+use Rattle.search.specs.declared.Kind.the-variants.{None, Improving, WronglyTied}
+use Rattle.search.specs.Paths.{movesOf}
+use Rattle.exchange.specs.Paths.{Chosen, Answers}
 
 -- what the search on lists finds
 abbrev pub foundBy : ExchangePath → Found

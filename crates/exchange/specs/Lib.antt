@@ -1,5 +1,4 @@
--- What the search answers.
+-- What the search for exchange paths answers.
 pub mod Paths
 -- What its parts answer.
 pub mod Tests
-pub mod Steps

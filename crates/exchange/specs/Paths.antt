@@ -1,19 +1,15 @@
 -- What the search for exchange paths answers.
 use mathlib.Core.Path.{_≡_}
 use mathlib.Core.Bool.{Bool, true, false}
-use mathlib.Core.List.{List, map}
+use mathlib.Core.List.{List}
 use Prim.Native.Nat.{ℕ, _≤_, _<_}
-use lib.ListN.{length, take}
+use lib.ListN.{length}
 use Rattle.fairness.specs.Instance.{Instance, Sheet}
 use Rattle.fairness.specs.Exchange.{Move, All, Path, improvesAt, tiesAt, Improvable, Tied}
-use Rattle.sheet.specs.Sheets.{moveOf}
-use Rattle.exchange.specs.declared.Kind.{Kind}
-use Rattle.exchange.specs.declared.Kind.the-variants.{None, Improving, WronglyTied}
-use Rattle.exchange.specs.declared.ExchangePath.{ExchangePath}
-
--- the moves of an exchange path, the receiver's first: as many of its array as it counts
-abbrev pub movesOf : ExchangePath → List Move
-movesOf x = map moveOf (take (x .count) (x .moves))
+use Rattle.search.specs.declared.Kind.{Kind}
+use Rattle.search.specs.declared.Kind.the-variants.{None, Improving, WronglyTied}
+use Rattle.search.specs.declared.ExchangePath.{ExchangePath}
+use Rattle.search.specs.Paths.{movesOf}
 
 -- a move whose window, giver and taker, counted from 1, fit a byte each
 pub record InByte (m : Move) : Type 0 where

@@ -1,4 +1,4 @@
-// The search for exchange paths, which the marker and settling call.
+// The search for exchange paths on a sheet, which the marker and settling call: scores and a graph of it, then the search on those.
 ghost use mathlib.Core.Path.{_≡_};
 ghost use mathlib.Core.Logic.{_⊎_, _↔_};
 ghost use Prim.Native.Nat.{ℕ, _≤_, _<_};
@@ -8,57 +8,22 @@ ghost use Rattle.model.specs.Book.{Grid};
 ghost use Rattle.sheet.specs.Sheets.{credit};
 ghost use Rattle.instance.specs.Terms.{instanceIn, Told, Shows, Ranged, Small};
 ghost use Rattle.masks.specs.Sets.{In};
-ghost use Rattle.reach.specs.Graphs.{setAt, Collects, Reached, Layers, Fewest};
-ghost use Rattle.exchange.specs.Paths.{movesOf, Writable, Answers};
-ghost use Rattle.exchange.specs.Tests.{testBy, Tested, Bounded, Scored, Wants};
-ghost use Rattle.exchange.specs.Steps.{Drawn, Receives, Firsts, Gives, GivesBy, Leading, Nearest};
+ghost use Rattle.reach.specs.Graphs.{setAt, Collects};
+ghost use Rattle.search.specs.Paths.{movesOf};
+ghost use Rattle.search.specs.Steps.{Drawn};
+ghost use Rattle.exchange.specs.Paths.{Writable, Answers};
+ghost use Rattle.exchange.specs.Tests.{Scored};
 use instance::Terms;
 use reach::Graph;
+use search::ExchangePath;
+use search::Kind;
+use search::Pair;
+use search::Scores;
+use search::first_pair;
+use search::path_to;
 use sheet::Caps;
 use sheet::Move;
 use sheet::Sheet;
-
-// What an exchange path does: it improves the sheet, or ties wrongly. Or there is none.
-pub enum Kind {
-    None,
-    Improving,
-    WronglyTied,
-}
-
-// An exchange path from a receiver to a donor, its moves from the receiver's on.
-pub struct ExchangePath {
-    pub kind: Kind,
-    pub receiver: usize,
-    pub donor: usize,
-    pub count: usize,
-    pub moves: [Move; 31],
-}
-
-// What the tests look at of a seat: its height, its weight, and its place in the order of the seat rule.
-pub struct Score {
-    pub height: u32,
-    pub weight: u32,
-    pub position: u32,
-}
-
-// The scores of all seats.
-pub struct Scores {
-    pub heights: [u32; 32],
-    pub weights: [u32; 32],
-    pub positions: [u32; 32],
-}
-
-// The first receiver that reaches a donor.
-pub enum Receiver {
-    Nobody,
-    Seat(usize),
-}
-
-// A receiver and a donor that it reaches.
-pub enum Pair {
-    Nobody,
-    Between { receiver: usize, donor: usize },
-}
 
 // The scores of a sheet: a seat's height is its base and its cells together.
 fn scores_of(sheet: Sheet, t: Terms) -> Scores
@@ -127,169 +92,6 @@ fn graph_of(sheet: Sheet, caps: Caps, t: Terms) -> Graph
         holders = more;
     }
     Graph { rooms, holders }
-}
-
-// Whether an exchange of this kind is wanted, by the scores of the receiver and of the donor.
-fn wanted(kind: Kind, receiver: Score, donor: Score) -> bool
-    requires { ⌜ Tested receiver × Tested donor ⌝ }
-    ensures { λ r. ⌜ r ≡ testBy kind receiver donor ⌝ }
-{
-    match kind {
-        Kind::None => false,
-        Kind::Improving => fairness::improves(
-            receiver.height,
-            receiver.weight,
-            donor.height,
-            donor.weight,
-        ),
-        Kind::WronglyTied => fairness::ties_wrongly(
-            receiver.height,
-            receiver.weight,
-            receiver.position,
-            donor.height,
-            donor.weight,
-            donor.position,
-        ),
-    }
-}
-
-// The donors that are wanted for a receiver.
-fn wanted_by(kind: Kind, scores: Scores, seats: usize, g: usize) -> u32
-    requires { ⌜ (seats ≤ 32) × ((g < seats) × Bounded seats scores) ⌝ }
-    ensures { λ r. ⌜ ((l : ℕ) → In l r ↔ Wants kind scores seats g l) ⌝ }
-{
-    let heights = scores.heights;
-    let weights = scores.weights;
-    let positions = scores.positions;
-    let receiver = Score {
-        height: heights[g],
-        weight: weights[g],
-        position: positions[g],
-    };
-    let mut set: u32 = 0;
-    for l in 0..seats {
-        let donor = Score {
-            height: heights[l],
-            weight: weights[l],
-            position: positions[l],
-        };
-        if wanted(kind, receiver, donor) {
-            set = masks::insert(set, l);
-        }
-    }
-    set
-}
-
-// The first receiver that reaches a donor which is wanted for it. Of each seat that is reached, the windows in which it has room are looked
-// at in turn, each once: who holds a credit there was seen then.
-fn first_receiver(kind: Kind, scores: Scores, graph: Graph, seats: usize) -> Receiver
-    requires { ⌜ (seats ≤ 32) × Bounded seats scores ⌝ }
-    ensures { λ r. ⌜ Receives kind scores graph seats r ⌝ }
-{
-    let rooms = graph.rooms;
-    let holders = graph.holders;
-    let mut found = Receiver::Nobody;
-    'receiver: for g in 0..seats {
-        let wanted = wanted_by(kind, scores, seats, g);
-        if wanted == 0 {
-            continue 'receiver;
-        }
-        let mut seen = masks::insert(0, g);
-        let mut front = seen;
-        let mut windows = masks::full(24);
-        'reached: while front != 0 {
-            let k = masks::lowest(front);
-            front = masks::remove_lowest(front);
-            let mut left = masks::intersect(rooms[k], windows);
-            windows = masks::minus(windows, left);
-            'window: while left != 0 {
-                let w = masks::lowest(left);
-                left = masks::remove_lowest(left);
-                let new = masks::minus(holders[w], seen);
-                if masks::intersect(new, wanted) != 0 {
-                    found = Receiver::Seat(g);
-                    break 'receiver;
-                }
-                front = masks::union(front, new);
-                seen = masks::union(seen, new);
-            }
-        }
-    }
-    found
-}
-
-// The first receiver that reaches a donor which is wanted for it, and its lowest such donor.
-fn first_pair(kind: Kind, scores: Scores, graph: Graph, seats: usize) -> Pair
-    requires { ⌜ (seats ≤ 32) × Bounded seats scores ⌝ }
-    ensures { λ r. ⌜ Firsts kind scores graph seats r ⌝ }
-{
-    match first_receiver(kind, scores, graph, seats) {
-        Receiver::Nobody => Pair::Nobody,
-        Receiver::Seat(g) => {
-            let wanted = wanted_by(kind, scores, seats, g);
-            let donors = masks::intersect(wanted, reach::reached(graph, g));
-            Pair::Between {
-                receiver: g,
-                donor: masks::lowest(donors),
-            }
-        }
-    }
-}
-
-// A move by which a seat gives to a member of a set.
-fn move_from(graph: Graph, set: u32, giver: usize) -> Move
-    requires { ⌜ (giver < 32) × Gives graph set giver ⌝ }
-    ensures { λ r. ⌜ GivesBy graph set giver r ⌝ }
-{
-    let rooms = graph.rooms;
-    let holders = graph.holders;
-    let windows = reach::column(&holders, giver);
-    let taker = reach::first_meeting(set, &rooms, windows);
-    let window = masks::lowest(masks::intersect(rooms[taker], windows));
-    Move {
-        window,
-        giver,
-        taker,
-    }
-}
-
-// The moves of a shortest path to a donor, from the layers that each number of moves reaches: from the donor back, the taker of each move
-// is a seat of the layer before.
-fn moves_to(graph: Graph, sets: [u32; 32], donor: usize, count: usize) -> [Move; 31]
-    requires { ⌜ Fewest sets donor count × ((g : ℕ) × Layers graph g sets) ⌝ }
-    ensures { λ r. ⌜ Leading graph sets donor count r ⌝ }
-{
-    let none = Move {
-        window: 0,
-        giver: 0,
-        taker: 0,
-    };
-    let mut moves = [none; 31];
-    let mut giver = donor;
-    let mut r = count;
-    while r > 0 {
-        r -= 1;
-        let m = move_from(graph, sets[r], giver);
-        moves[r] = m;
-        giver = m.taker;
-    }
-    moves
-}
-
-// An exchange path from a receiver to a donor that has the fewest moves.
-fn path_to(kind: Kind, graph: Graph, receiver: usize, donor: usize) -> ExchangePath
-    requires { ⌜ (receiver < 32) × Reached graph receiver donor ⌝ }
-    ensures { λ r. ⌜ Nearest kind graph receiver donor r ⌝ }
-{
-    let sets = reach::layers(graph, receiver);
-    let count = reach::fewest(sets, donor);
-    ExchangePath {
-        kind,
-        receiver,
-        donor,
-        count,
-        moves: moves_to(graph, sets, donor, count),
-    }
 }
 
 // No exchange path.

@@ -10,10 +10,11 @@ use Rattle.fairness.proofs.Theorems.{path-plays, path-feasible, path-full, path
 use Rattle.model.specs.Book.{Grid}
 use Rattle.sheet.specs.declared.Sheet.{Sheet}
 use Rattle.sheet.specs.Sheets.{credit}
-use Rattle.exchange.specs.declared.Kind.{Kind}
-use Rattle.exchange.specs.declared.Kind.the-variants.{None, Improving, WronglyTied}
-use Rattle.exchange.specs.declared.ExchangePath.{ExchangePath}
-use Rattle.exchange.specs.Paths.{movesOf, Answers}
+use Rattle.search.specs.declared.Kind.{Kind}
+use Rattle.search.specs.declared.Kind.the-variants.{None, Improving, WronglyTied}
+use Rattle.search.specs.declared.ExchangePath.{ExchangePath}
+use Rattle.search.specs.Paths.{movesOf}
+use Rattle.exchange.specs.Paths.{Answers}
 use Rattle.instance.specs.declared.Terms.{Terms}
 use Rattle.instance.specs.Terms.{instanceIn, Told, Small}
 use Rattle.instance.proofs.Told.{small-proper, shows-itself, shown-settled}

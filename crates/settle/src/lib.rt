@@ -4,13 +4,14 @@ ghost use Prim.Native.Nat.{ℕ};
 ghost use Rattle.fairness.specs.Instance.{Instance};
 ghost use Rattle.fairness.specs.Exchange.{playAll, Settled};
 ghost use Rattle.sheet.specs.Sheets.{credit};
-ghost use Rattle.exchange.specs.Paths.{movesOf, Writable};
+ghost use Rattle.search.specs.Paths.{movesOf};
+ghost use Rattle.exchange.specs.Paths.{Writable};
 ghost use Rattle.fill.specs.Fills.{Full};
 ghost use Rattle.instance.specs.Terms.{instanceIn, Told, Small};
 ghost use Rattle.settle.specs.Playing.{AllPlayable};
-use exchange::ExchangePath;
-use exchange::Kind;
 use instance::Terms;
+use search::ExchangePath;
+use search::Kind;
 use sheet::Caps;
 use sheet::Sheet;
 

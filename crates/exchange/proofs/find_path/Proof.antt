@@ -2,7 +2,7 @@
 use borrow.Author.Needs.{needs}
 use native.Mathlib.Omega.{arith}
 use Rattle.instance.proofs.Told.{told-in, shows-itself}
-use Rattle.exchange.specs.Tests.{Bounded}
+use Rattle.search.specs.Tests.{Bounded}
 use Rattle.exchange.proofs.Heights.{bounded}
 use Rattle.exchange.proofs.Finding.{finds-improving, finds-tied, finds-none}
 use Rattle.exchange.proofs.find_path.Statement.{statement}

@@ -5,7 +5,7 @@ use native.Mathlib.Omega.{arith}
 use mathlib.Core.List.{map}
 use lib.ListN.{length, take}
 use Rattle.lists.proofs.Alls.{taken-at}
-use Rattle.exchange.specs.Paths.{movesOf}
+use Rattle.search.specs.Paths.{movesOf}
 use Rattle.sheet.specs.Sheets.{credit, moveOf}
 use Rattle.settle.proofs.Playing.{Played, first, this, next, last}
 use borrow.Author.Needs.{needs}

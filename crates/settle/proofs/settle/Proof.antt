@@ -7,8 +7,9 @@ use Rattle.fairness.proofs.Theorems.{measure}
 use Rattle.instance.specs.Terms.{instanceIn}
 use Rattle.instance.proofs.Told.{told-in, shows-itself}
 use Rattle.fill.specs.Fills.{Full}
-use Rattle.exchange.specs.declared.Kind.the-variants.{None}
-use Rattle.exchange.specs.Paths.{movesOf, Answers}
+use Rattle.search.specs.declared.Kind.the-variants.{None}
+use Rattle.search.specs.Paths.{movesOf}
+use Rattle.exchange.specs.Paths.{Answers}
 use Rattle.settle.proofs.Turns.{turn-playable, turn-full, turn-less, turn-last}
 use Rattle.settle.proofs.settle.Statement.{statement}
 use Rattle.settle.proofs.settle.Tie as tie

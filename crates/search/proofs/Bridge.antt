@@ -13,7 +13,7 @@ use Rattle.masks.proofs.Laws.{bit-lt}
 use Rattle.reach.specs.declared.Graph.{Graph}
 use Rattle.reach.specs.Graphs.{setAt, Takes, Reach, Reached, Layers}
 use Rattle.reach.proofs.Members.{at-small}
-use Rattle.exchange.specs.Steps.{Drawn}
+use Rattle.search.specs.Steps.{Drawn}
 
 module _ (I : Instance) (S : ℕ → ℕ → ℕ) (graph : Graph) (d : Drawn I S graph) where
   takes-edge : (k l : ℕ) → Takes graph k l ↔ Edge I S k l

@@ -1,8 +1,8 @@
--- `exchange::first_pair` meets its contract.
+-- `search::first_pair` meets its contract.
 use borrow.Author.Needs.{needs}
-use Rattle.exchange.proofs.Choosing.{some-donor, first-pair}
-use Rattle.exchange.proofs.first_pair.Statement.{statement}
-use Rattle.exchange.proofs.first_pair.Tie as tie
+use Rattle.search.proofs.Donors.{some-donor, first-pair}
+use Rattle.search.proofs.first_pair.Statement.{statement}
+use Rattle.search.proofs.first_pair.Tie as tie
 
 wanted-by-requires : tie.Need-wanted-by-requires
 wanted-by-requires c κs =

@@ -1,4 +1,4 @@
--- What the parts of the search answer.
+-- What the search and its parts answer.
 use mathlib.Core.Path.{_≡_}
 use mathlib.Core.List.{List, map}
 use mathlib.Core.Logic.{_↔_}
@@ -11,15 +11,15 @@ use Rattle.sheet.specs.Sheets.{moveOf}
 use Rattle.masks.specs.Sets.{In}
 use Rattle.reach.specs.declared.Graph.{Graph}
 use Rattle.reach.specs.Graphs.{setAt, Leads, Takes, Reach, Reached, Layers}
-use Rattle.exchange.specs.declared.Kind.{Kind}
-use Rattle.exchange.specs.declared.Receiver.{Receiver}
-use Rattle.exchange.specs.declared.Receiver.the-variants as receiver
-use Rattle.exchange.specs.declared.Pair.{Pair}
-use Rattle.exchange.specs.declared.Pair.the-variants.{Nobody, Between}
-use Rattle.exchange.specs.declared.Scores.{Scores}
-use Rattle.exchange.specs.declared.ExchangePath.{ExchangePath}
-use Rattle.exchange.specs.Tests.{Wants}
-use Rattle.exchange.specs.Paths.{movesOf}
+use Rattle.search.specs.declared.Kind.{Kind}
+use Rattle.search.specs.declared.Receiver.{Receiver}
+use Rattle.search.specs.declared.Receiver.the-variants as receiver
+use Rattle.search.specs.declared.Pair.{Pair}
+use Rattle.search.specs.declared.Pair.the-variants.{Nobody, Between}
+use Rattle.search.specs.declared.Scores.{Scores}
+use Rattle.search.specs.declared.ExchangePath.{ExchangePath}
+use Rattle.search.specs.Tests.{Wants}
+use Rattle.search.specs.Paths.{movesOf}
 
 -- the graph shows the moves that are possible: the taker has room in the window, and the giver holds a credit there
 abbrev pub Drawn : Instance → Sheet → Graph → Type 0

@@ -1,0 +1,6 @@
+-- The laws that the functions' proofs cite.
+pub mod Donors
+pub mod Seeing
+pub mod Walking
+-- what callers cite
+pub mod Bridge

@@ -1,0 +1,4 @@
+-- What the search answers, and what its parts do.
+pub mod Paths
+pub mod Tests
+pub mod Steps
