@@ -26,7 +26,8 @@ use Rattle.marker.specs.Marking.{markedSheet, markFile, told, results, PathWrit
 use Rattle.dayfile.specs.Memory.{cellsIn}
 use Rattle.marker.proofs.Theorems.{marks-says, marks-buffer}
 use Rattle.marker.proofs.Files.{book-read, sheet-read}
-use Rattle.listing.specs.Listing.{listingOf, refusalLine, listingMax, Printed}
+use Rattle.lines.specs.Lines.{refusalLine, Printed}
+use Rattle.listing.specs.Listing.{listingOf, listingMax}
 use Rattle.listing.specs.Calls.{textOf, MovesOf, Listed, Lists}
 
 -- ---- the output buffer is long enough, or not
