@@ -10,19 +10,8 @@ use Rattle.model.specs.Book.{Book, Grid, cell, seats, windows, instanceOf, tota
 use Rattle.model.specs.Marks.{Result, moveBytes}
 use Rattle.model.proofs.Moves.{move-bytes-length}
 use Rattle.lists.proofs.Tables.{table-at}
-use Rattle.listing.specs.Listing.{
-  windowLine,
-  seatLine,
-  moveLine,
-  lines,
-  windowLines,
-  seatLines,
-  moveLines,
-  bookLines,
-  resultLines,
-  listingText,
-  listingOf,
-}
+use Rattle.lines.specs.Lines.{windowLine, seatLine, moveLine, lines, windowLines, seatLines, moveLines}
+use Rattle.listing.specs.Listing.{bookLines, resultLines, listingText, listingOf}
 
 -- ---- the same numbers give the same text
 

@@ -1,8 +1,7 @@
 -- What is known of listings.
 pub mod Sample
-pub mod Growing
 pub mod Bounds
-pub mod Fronts
+pub mod Results
 pub mod Instance
 pub mod Memory
 pub mod Listed

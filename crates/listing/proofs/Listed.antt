@@ -1,10 +1,10 @@
 -- From what the marker says and writes to the listing's contract. Assumes nothing.
 use mathlib.Core.Path.{_≡_, refl, sym, ap, _∙_}
 use mathlib.Core.List.{List, [], _++_}
-use mathlib.Core.Option.{none, some}
-use Prim.Native.Nat.{ℕ, _*_, _≤_, _<_}
+use mathlib.Core.Option.{none}
+use Prim.Native.Nat.{ℕ, _≤_, _<_}
 use native.Mathlib.Omega.{arith}
-use lib.ListN.{length, drop}
+use lib.ListN.{length}
 use borrow.Author.Tests.{lt-ltb, le-ltb}
 use Rattle.fairness.specs.Exchange.{Move}
 use Rattle.model.specs.Search.{Found}
@@ -26,8 +26,9 @@ use Rattle.marker.specs.Marking.{markedSheet, markFile, told, results, PathWrit
 use Rattle.dayfile.specs.Memory.{cellsIn}
 use Rattle.marker.proofs.Theorems.{marks-says, marks-buffer}
 use Rattle.marker.proofs.Files.{book-read, sheet-read}
-use Rattle.listing.specs.Listing.{listingOf, refusalLine, listingMax, Printed}
-use Rattle.listing.specs.Calls.{textOf, MovesOf, Listed, Lists}
+use Rattle.lines.specs.Lines.{refusalLine, Printed}
+use Rattle.listing.specs.Listing.{listingOf, listingMax}
+use Rattle.listing.specs.Calls.{MovesOf, Listed, Lists}
 
 -- ---- the output buffer is long enough, or not
 

@@ -10,24 +10,9 @@ use Rattle.model.specs.Book.{Book, Grid, instanceOf, totals}
 use Rattle.model.specs.Search.{member, any, filter, canTake, grow, layer, reached, fewest, donorOf, firstReceiver, search}
 use Rattle.model.specs.Marks.{seatBelow, wastedWindow, markOf, resultOf, moveBytes}
 use Rattle.text.specs.Text.{ascii, digits, widthWithin, widthOf, decimal, fourDigits, openingTime}
-use Rattle.listing.specs.Listing.{
-  labelled,
-  labelledLast,
-  opens,
-  headLine,
-  windowLine,
-  seatLine,
-  leftLine,
-  moveLine,
-  lines,
-  windowLines,
-  seatLines,
-  moveLines,
-  bookLines,
-  resultLines,
-  listingText,
-  listingOf,
-}
+use Rattle.lines.specs.Lines.{labelled, labelledLast, opens, headLine, windowLine, seatLine, leftLine, moveLine}
+use Rattle.lines.specs.Lines.{lines, windowLines, seatLines, moveLines}
+use Rattle.listing.specs.Listing.{bookLines, resultLines, listingText, listingOf}
 
 abbrev book : Book
 book =

@@ -13,7 +13,8 @@ use Rattle.dayfile.specs.Table.{bufferLines, movesRoom}
 use Rattle.dayfile.specs.Outcome.{Outcome, turnedAway, answer, Defined}
 use Rattle.dayfile.specs.Memory.{written}
 use Rattle.marker.specs.Marking.{markedSheet, markFile}
-use Rattle.listing.specs.Listing.{listingOf, refusalLine, listingMax, Printed}
+use Rattle.lines.specs.Lines.{refusalLine, Printed}
+use Rattle.listing.specs.Listing.{listingOf, listingMax}
 
 -- the text of what the marker answers, with the moves that it writes
 abbrev pub textOf : Book → Grid → Outcome Mark → List Move → List ℕ

@@ -1,9 +1,4 @@
 // The text that the program `mark` prints of a file, written to the front of an output buffer.
-mod line;
-mod lines;
-mod part;
-pub mod sums;
-
 ghost use mathlib.Core.Path.{_≡_};
 ghost use mathlib.Core.List.{List, _++_};
 ghost use Prim.Native.Nat.{ℕ, _≤_, _*_};
@@ -13,18 +8,60 @@ ghost use Rattle.model.specs.Marks.{moveBytes};
 ghost use Rattle.dayfile.specs.Bounds.{Fit};
 ghost use Rattle.dayfile.specs.Memory.{dayBook, cellsIn};
 ghost use Rattle.marker.specs.Marking.{resultIn};
-ghost use Rattle.listing.specs.Listing.{listingText, listingOf, refusalLine, listingMax, refusalMax, Printed};
+ghost use Rattle.lists.specs.Buffers.{Room, Stored};
+ghost use Rattle.lines.specs.Lines.{Printed};
+ghost use Rattle.listing.specs.Listing.{bookLines, resultLines, listingText, listingOf, listingMax};
 ghost use Rattle.listing.specs.Calls.{Listed, Lists};
 use dayfile::Book;
 use dayfile::Day;
 use dayfile::Written;
 use lawful::MOVES_ROOM;
+use lines::line;
+use lines::part;
+use lines::put_move_lines;
+use lines::put_refusal;
+use lines::put_seat_lines;
+use lines::put_window_lines;
 use marker::Numbers;
 use sums::Sums;
 use sums::sums_of;
 
+pub mod sums;
+
 // A buffer of this length takes every listing.
 pub const LISTING_MAX: usize = 3453;
+
+// The first line, the windows and the seats.
+fn put_book_lines(out: &mut [u8], at: usize, book: Book, sums: Sums) -> usize
+    requires { ⌜ (book .seats ≤ 32) × (book .windows ≤ 24) ⌝ }
+    requires { ⌜ Room (now out) at
+        (bookLines (book .seats) (book .windows) (book .classes) (book .supplies) (sums .placed) (sums .totals)) ⌝ }
+    ensures { λ r. ⌜ Stored (now (out .entry)) at
+        (bookLines (book .seats) (book .windows) (book .classes) (book .supplies) (sums .placed) (sums .totals)) (now (out .exit)) r ⌝ }
+{
+    let seats = book.seats;
+    let windows = book.windows;
+    let supplies = book.supplies;
+    let classes = book.classes;
+    let placed = sums.placed;
+    let totals = sums.totals;
+    let mut next = line::put_head_line(out, at, seats, windows);
+    next = put_window_lines(out, next, windows, supplies, placed);
+    put_seat_lines(out, next, seats, classes, totals)
+}
+
+// The mark, and what belongs to it: a window and a seat, or moves.
+fn put_result_lines(out: &mut [u8], at: usize, result: Numbers, moves: &[u8]) -> usize
+    requires { ⌜ result .moves * 3 ≤ length (now moves) ⌝ }
+    requires { ⌜ Room (now out) at (resultLines (resultIn result) (now moves)) ⌝ }
+    ensures { λ r. ⌜ Stored (now (out .entry)) at (resultLines (resultIn result) (now (moves .entry))) (now (out .exit)) r ⌝ }
+{
+    let next = part::put_last_field(out, at, b"mark ", result.mark as usize);
+    if result.mark == 1 {
+        return line::put_left_line(out, next, result.window, result.seat);
+    }
+    put_move_lines(out, next, moves, result.moves)
+}
 
 // A whole listing at the buffer's front; returns its length. The moves of marks 2 and 3 come as the marker writes them.
 pub fn put_listing(out: &mut [u8], book: Book, sums: Sums, result: Numbers, moves: &[u8]) -> usize
@@ -36,17 +73,8 @@ pub fn put_listing(out: &mut [u8], book: Book, sums: Sums, result: Numbers, move
         (resultIn result) (now (moves .entry)))
         (now (out .exit)) r ⌝ }
 {
-    let next = lines::put_book_lines(out, 0, book, sums);
-    lines::put_result_lines(out, next, result, moves)
-}
-
-// A refusal at the buffer's front; returns its length.
-pub fn put_refusal(out: &mut [u8], number: usize, offset: usize) -> usize
-    requires { ⌜ refusalMax ≤ length (now out) ⌝ }
-    ensures { λ r. ⌜ Printed (now (out .entry)) (refusalLine number offset) (now (out .exit)) r ⌝ }
-{
-    let next = part::put_field(out, 0, b"refused ", number);
-    part::put_last_field(out, next, b" at ", offset)
+    let next = put_book_lines(out, 0, book, sums);
+    put_result_lines(out, next, result, moves)
 }
 
 // The listing of a day with a sheet, whatever the mark and the moves are.

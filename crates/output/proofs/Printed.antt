@@ -12,7 +12,8 @@ use Rattle.dayfile.specs.Outcome.{answer}
 use Rattle.dayfile.specs.Memory.{front}
 use Rattle.dayfile.proofs.Lines.{none-holds}
 use Rattle.dayfile.proofs.Answers.{answer-none, refusal-first}
-use Rattle.listing.specs.Listing.{refusalLine, listingMax, Printed}
+use Rattle.lines.specs.Lines.{refusalLine, Printed}
+use Rattle.listing.specs.Listing.{listingMax}
 use Rattle.listing.specs.Calls.{Lists}
 use Rattle.planner.specs.Planning.{Plans}
 use Rattle.planner.proofs.Theorems as planner

@@ -6,7 +6,7 @@ use lib.ListN.{length}
 use Rattle.dayfile.specs.declared.Written.{Written}
 use Rattle.dayfile.specs.declared.Written.the-variants.{Refused, Whole}
 use Rattle.dayfile.specs.Memory.{front}
-use Rattle.listing.specs.Listing.{refusalLine}
+use Rattle.lines.specs.Lines.{refusalLine}
 use Rattle.planner.specs.Planning.{Plans}
 
 -- from the planner's answer and the buffer as it left it: a planned file stays, and a refusal's line goes to the front

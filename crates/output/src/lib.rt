@@ -27,6 +27,6 @@ pub fn of_plan(file: &[u8], out: &mut [u8; ROOM]) -> usize
 {
     match planner::plan(file, out) {
         Written::Whole { length: planned } => planned,
-        Written::Refused { number, at } => listing::put_refusal(out, number as usize, at),
+        Written::Refused { number, at } => lines::put_refusal(out, number as usize, at),
     }
 }

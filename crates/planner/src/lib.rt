@@ -32,7 +32,7 @@ pub fn plan(file: &[u8], out: &mut [u8]) -> Written
     let day = reading.day;
     let book = day.book;
     let caps = day.caps;
-    let need = writer::file_length(book, true);
+    let need = store::file_length(book, true);
     if out.len() < need {
         return Written::Refused {
             number: 16,
@@ -46,6 +46,6 @@ pub fn plan(file: &[u8], out: &mut [u8]) -> Written
         has_sheet: true,
         sheet,
     };
-    let length = writer::put_file(out, planned);
+    let length = store::put_file(out, planned);
     Written::Whole { length }
 }

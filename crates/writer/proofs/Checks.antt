@@ -2,7 +2,7 @@
 -- Assumes nothing.
 use mathlib.Core.Bool.{Bool, true, false, not, _&&_}
 use mathlib.Core.List.{List, [], _∷_, _++_, append-assoc}
-use mathlib.Core.Option.{Option, none, some}
+use mathlib.Core.Option.{none, some}
 use mathlib.Core.Path.{_≡_, refl, sym, _∙_, ap, ap₂}
 use Prim.Native.Nat.{ℕ, _+_, _*_, _%_, _≤_, _<_}
 use native.Mathlib.Decide.{decLe}
@@ -14,7 +14,7 @@ use Rattle.model.specs.Lowest.{lowest, when}
 use Rattle.sheet.specs.Sheets.{gridOf}
 use Rattle.sheet.specs.declared.Sheet.{Sheet}
 use Rattle.dayfile.specs.Layout.{field, entriesIn, contentsEnd, start, size, sizeAt, seatsIn, windowsIn}
-use Rattle.dayfile.specs.File.{Part, assemble, flat, optParts, partsOf, fileOf}
+use Rattle.dayfile.specs.File.{Part, assemble, flat, partsOf, fileOf}
 use Rattle.dayfile.specs.Table.{Line, Refusal, line, refuse, firstOf, within, offset, sizeRight, outside}
 use Rattle.dayfile.specs.Table.{line7, line8, line10, line11, line12, line16}
 use Rattle.dayfile.specs.Table.{valueLines, optionLines, bufferLines, writeLines}
@@ -31,9 +31,9 @@ use Rattle.dayfile.proofs.Fields.{fields-at}
 use Rattle.dayfile.proofs.Grids.{sized-flat-length}
 use Rattle.dayfile.proofs.Container.{nth, before, start-is, size-is, body-is}
 use Rattle.dayfile.proofs.Sound.{kept}
-use Rattle.writer.specs.Stores.{entries, slotsIn}
+use Rattle.store.specs.Stores.{entries, slotsIn}
+use Rattle.store.proofs.Files.{partsIn, parts-count}
 use Rattle.writer.specs.Values.{outsideIn}
-use Rattle.writer.proofs.Files.{partsIn, parts-count}
 
 -- ---- counts and sizes
 

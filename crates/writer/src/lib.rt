@@ -1,46 +1,13 @@
 // Writes the day file of a day in memory to the front of an output buffer.
-ghost use mathlib.Core.Path.{_≡_};
-ghost use Prim.Native.Nat.{_≤_};
-ghost use lib.ListN.{length};
-ghost use Rattle.dayfile.specs.Memory.{fileIn, front, WritesDay};
-ghost use Rattle.dayfile.specs.declared.Day.{Day};
-ghost use Rattle.writer.specs.Stores.{Of};
-use bodies::put_book;
-use bodies::put_options;
-use contents::count_entries;
-use contents::count_fields;
-use contents::put_contents;
-use contents::slots_of;
-use dayfile::Book;
+ghost use Rattle.dayfile.specs.Memory.{WritesDay};
 use dayfile::Check;
 use dayfile::Day;
 use dayfile::Written;
 use lines::check_day;
+use store::file_length;
+use store::put_file;
 
-pub mod bodies;
-pub mod contents;
 pub mod lines;
-pub mod numbers;
-
-// The length of the file of a book with or without a sheet, whatever its caps and its sheet.
-pub fn file_length(book: Book, has_sheet: bool) -> usize
-    requires { ⌜ (book .seats ≤ 32) × (book .windows ≤ 24) ⌝ }
-    ensures { λ r. ⌜ ((d : Day) → Of book «has_sheet» d → r ≡ length (fileIn d)) ⌝ }
-{
-    let slots = slots_of(book, has_sheet);
-    2 + 6 * count_entries(slots) + 2 * count_fields(slots)
-}
-
-// The file at the front of a buffer that is long enough.
-pub fn put_file(out: &mut [u8], day: Day) -> usize
-    requires { ⌜ (day .book .seats ≤ 32) × (day .book .windows ≤ 24) × (length (fileIn day) ≤ length (now out)) ⌝ }
-    ensures length { λ r. ⌜ r ≡ length (fileIn day) ⌝ }
-    ensures file { λ r. ⌜ now (out .exit) ≡ front (fileIn day) (now (out .entry)) ⌝ }
-{
-    let p = put_contents(out, slots_of(day.book, day.has_sheet));
-    let p = put_book(out, p, day.book, day.caps);
-    put_options(out, p, day)
-}
 
 // The file at the front of any buffer, or the refusal.
 pub fn write(out: &mut [u8], day: Day) -> Written

@@ -9,10 +9,8 @@ ghost use Rattle.dayfile.specs.File.{flat};
 ghost use Rattle.dayfile.specs.Table.{line, line7, line8, valueLines, optionLines, firstOf};
 ghost use Rattle.dayfile.specs.Memory.{found, refused, sized, sizedGrid, fileIn};
 ghost use Rattle.dayfile.specs.declared.Day.{Day};
-ghost use Rattle.writer.specs.Stores.{entries, slotsIn, Of};
+ghost use Rattle.store.specs.Stores.{entries, slotsIn, Of};
 ghost use Rattle.writer.specs.Values.{outsideIn};
-use super::contents::first_body;
-use super::numbers::number;
 use dayfile::Book;
 use dayfile::Check;
 use dayfile::Day;
@@ -21,6 +19,8 @@ use dayfile::first_of;
 use dayfile::outside_at;
 use dayfile::within;
 use sheet::Sheet;
+use store::contents::first_body;
+use store::numbers::number;
 
 // The first of n numbers that is not low to high, where the first one's field is at `at`.
 fn outside_in(src: &[u16], n: usize, at: usize, low: usize, high: usize) -> Found

@@ -4,9 +4,10 @@ use mir.Syntax.{w8, w16, w32}
 use Rattle.lists.specs.Buffers.{Room}
 use Rattle.lists.proofs.Buffers.{room-first, room-next, stored-next}
 use Rattle.marker.specs.Marking.{resultIn}
+use Rattle.lines.proofs.Bounds.{below}
+use Rattle.lines.proofs.Fronts.{front-room, printed}
 use Rattle.listing.specs.Listing.{listingText}
-use Rattle.listing.proofs.Bounds.{below, listing-le}
-use Rattle.listing.proofs.Fronts.{front-room, printed}
+use Rattle.listing.proofs.Bounds.{listing-le}
 use Rattle.listing.proofs.put_listing.Statement.{statement}
 use Rattle.listing.proofs.put_listing.Tie as tie
 

@@ -1,5 +1,5 @@
 use Rattle.sheet.proofs.Shapes.{shaped}
-use Rattle.writer.proofs.Storing.{row-long}
+use Rattle.store.proofs.Storing.{row-long}
 use mathlib.Core.Option.{none}
 use mathlib.Core.Path.{_≡_, sym, _∙_, ap}
 use Prim.Native.Nat.{ℕ, _*_, _-_, _≤_, zero-le}

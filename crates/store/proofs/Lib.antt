@@ -1,0 +1,3 @@
+pub mod Storing
+pub mod Files
+pub mod Slots

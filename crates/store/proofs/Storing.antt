@@ -1,0 +1,109 @@
+-- Fields stored into a buffer: one run of them after another, one more of a list, one more row of a grid.
+-- Assumes nothing.
+use mathlib.Core.Bool.{Bool, true, false}
+use mathlib.Core.List.{List, [], _∷_, _++_}
+use mathlib.Core.Path.{_≡_, refl, sym, _∙_, ap}
+use Prim.Native.Nat.{ℕ, _+_, _*_, _≤_, _<_}
+use native.Mathlib.Nat.{mul-le-mul-right}
+use native.Mathlib.Omega.{arith}
+use lib.ListN.{length, getD, drop, length-append}
+use Rattle.fairness.specs.Leximin.{table}
+use Rattle.lists.proofs.Buffers.{stored-none, stored-next, stored-as, stored-length, stored-front}
+use Rattle.model.specs.Book.{Grid, Shaped}
+use Rattle.sheet.specs.Sheets.{noRow, gridOf}
+use Rattle.sheet.specs.declared.Sheet.{Sheet}
+use Rattle.sheet.proofs.Cells.{row-is}
+use Rattle.dayfile.specs.File.{bytesOf, flat}
+use Rattle.dayfile.specs.Memory.{sized, sizedGrid}
+use Rattle.dayfile.proofs.Tables.{sized-length, sized-more}
+use Rattle.dayfile.proofs.Fields.{length-bytes, bytes-append}
+use Rattle.dayfile.proofs.Grids.{sized-flat-length, sized-flat-none, sized-flat-more}
+use Rattle.store.specs.Stores.{Room, Put, sizeIf, fieldsIf}
+
+pub put-none : (l : List ℕ) (at : ℕ) → Put l at [] at l
+unfolding bytesOf
+put-none l at = record { bytes = stored-none }
+
+-- one run of fields after another
+pub put-then : {l : List ℕ} {at : ℕ} {ws vs : List ℕ} {p r : ℕ} {b d : List ℕ} → Put l at ws p b → Put b p vs r d → Put l at (ws ++ vs) r d
+put-then {ws = ws} {vs = vs} h k = record { bytes = stored-as (sym (bytes-append ws vs)) (stored-next (h .bytes) (k .bytes)) }
+
+-- the same fields
+pub put-as : {l : List ℕ} {at : ℕ} {ws vs : List ℕ} {r : ℕ} {d : List ℕ} → ws ≡ vs → Put l at ws r d → Put l at vs r d
+put-as e h = record { bytes = stored-as (ap bytesOf e) (h .bytes) }
+
+-- the offset behind them
+pub put-end : {l : List ℕ} {at : ℕ} {ws : List ℕ} {p : ℕ} {b : List ℕ} → Put l at ws p b → p ≡ at + 2 * length ws
+put-end {at = at} {ws = ws} h = h .bytes .place ∙ ap (λ (n : ℕ). at + n) (length-bytes ws)
+
+-- the buffer is as long as it was
+pub put-long : {l : List ℕ} {at : ℕ} {ws : List ℕ} {p : ℕ} {b : List ℕ} → Put l at ws p b → length b ≡ length l
+put-long h = stored-length (h .bytes)
+
+-- the front of the buffer, and the rest as it was
+pub put-front : {l ws : List ℕ} {p : ℕ} {b : List ℕ} → Put l 0 ws p b → 2 * length ws ≤ length l
+    → b ≡ bytesOf ws ++ drop (length (bytesOf ws)) l
+put-front {ws = ws} h k = let e = length-bytes ws in stored-front (h .bytes) (omega arith)
+
+-- ---- room
+
+-- where there is room for two runs, there is for the first
+pub room-first : {l : List ℕ} {at : ℕ} (ws vs : List ℕ) → Room l at (ws ++ vs) → Room l at ws
+room-first ws vs r = let e = length-append ws vs in record { fits = omega (arith, r .fits) }
+
+-- .. and, when that is stored, for the second
+pub room-next : {l : List ℕ} {at : ℕ} (ws vs : List ℕ) {p : ℕ} {b : List ℕ} → Room l at (ws ++ vs) → Put l at ws p b → Room b p vs
+room-next ws vs r k =
+    let e = length-append ws vs in let x = put-end k in let y = put-long k in record { fits = omega (arith, r .fits) }
+
+-- the same fields
+pub room-as : {l : List ℕ} {at : ℕ} {ws vs : List ℕ} → ws ≡ vs → Room l at ws → Room l at vs
+room-as e r = let n = ap length e in record { fits = omega (arith, r .fits) }
+
+-- ---- a list, number by number
+
+pub list-none : (l : List ℕ) (at : ℕ) (xs : List ℕ) → Put l at (sized 0 xs) at l
+unfolding sized table
+list-none l at xs = put-none l at
+
+pub list-more : {l : List ℕ} {at : ℕ} (xs : List ℕ) (i : ℕ) {x p r : ℕ} {b d : List ℕ}
+    → Put l at (sized i xs) p b → x ≡ getD xs i 0 → Put b p (x ∷ []) r d → Put l at (sized (i + 1) xs) r d
+list-more xs i h e k = put-as (sym (sized-more i xs)) (put-then h (put-as (ap (λ (y : ℕ). y ∷ []) e) k))
+
+pub list-room : {l : List ℕ} {at : ℕ} {n : ℕ} (xs : List ℕ) (i : ℕ) {x p : ℕ} {b : List ℕ}
+    → Room l at (sized n xs) → i < n → Put l at (sized i xs) p b → Room b p (x ∷ [])
+list-room {n = n} xs i r h k =
+    let e = sized-length n xs in
+    let f = sized-length i xs in let x = put-end k in let y = put-long k in record { fits = omega (arith, r .fits) }
+
+-- ---- a grid, row by row
+
+pub grid-none : (l : List ℕ) (at m : ℕ) (g : Grid) → Put l at (flat (sizedGrid 0 m g)) at l
+grid-none l at m g = put-as (sized-flat-none m g) (put-none l at)
+
+pub grid-more : {l : List ℕ} {at : ℕ} (m : ℕ) (s : Sheet) (i : ℕ) {p r : ℕ} {b d : List ℕ}
+    → Put l at (flat (sizedGrid i m (gridOf s))) p b → Put b p (sized m (getD (s .rows) i noRow .cells)) r d
+    → Put l at (flat (sizedGrid (i + 1) m (gridOf s))) r d
+grid-more m s i h k =
+    let front : List ℕ = flat (sizedGrid i m (gridOf s)) in
+    let row = ap (λ (cells : List ℕ). front ++ sized m cells) (sym (row-is s i)) in
+    put-as (row ∙ sym (sized-flat-more i m (gridOf s))) (put-then h k)
+
+pub grid-room : {l : List ℕ} {at : ℕ} {n : ℕ} (m : ℕ) (g : Grid) (i : ℕ) (xs : List ℕ) {p : ℕ} {b : List ℕ}
+    → Room l at (flat (sizedGrid n m g)) → i < n → Put l at (flat (sizedGrid i m g)) p b → Room b p (sized m xs)
+grid-room {n = n} m g i xs r h k =
+    let e = sized-flat-length n m g in
+    let f = sized-flat-length i m g in
+    let w = sized-length m xs in
+    let q = mul-le-mul-right m h in
+    let x = put-end k in let y = put-long k in record { fits = omega (arith, r .fits) }
+
+-- a row of a sheet in memory has 24 cells
+pub row-long : (s : Sheet) → Shaped 32 24 (gridOf s) → (i : ℕ) → i < 32 → length (getD (s .rows) i noRow .cells) ≡ 24
+row-long s h i l = ap length (sym (row-is s i)) ∙ h .row i l
+
+-- ---- what may be missing: no rows
+
+pub grid-if : (t : Bool) (n m : ℕ) (g : Grid) → flat (sizedGrid (sizeIf t n) m g) ≡ fieldsIf t (flat (sizedGrid n m g))
+grid-if true n m g = refl
+grid-if false n m g = sym (sized-flat-none m g)
