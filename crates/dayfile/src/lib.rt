@@ -59,9 +59,9 @@ impl Day {
     {
         Day {
             book,
-            caps: Sheet::from_grid(caps),
+            caps: Sheet::from_grid(caps, 32),
             has_sheet,
-            sheet: Sheet::from_grid(sheet),
+            sheet: Sheet::from_grid(sheet, 32),
         }
     }
 }
