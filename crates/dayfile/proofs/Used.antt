@@ -4,15 +4,14 @@ use mathlib.Core.List.{List, []}
 use Prim.Native.Nat.{ℕ, _≤_, _<_}
 use native.Mathlib.Omega.{arith}
 use lib.ListN.{getD}
-use Rattle.lists.proofs.Tables.{table-same}
-use Rattle.model.specs.Book.{Book, Grid, cell}
+use Rattle.model.specs.Book.{Grid, cell}
 use Rattle.dayfile.specs.Bounds.{Fit}
-use Rattle.dayfile.specs.Memory.{sized, sizedGrid, bookIn, cellsIn}
+use Rattle.dayfile.specs.Memory.{sizedGrid, bookIn, cellsIn}
 use Rattle.dayfile.specs.declared.Book as Memory
 use Rattle.dayfile.proofs.Tables.{sized-at, sized-row}
 use Rattle.dayfile.proofs.Held.{seats-in, windows-in}
 use Rattle.sheet.specs.declared.Sheet.{Sheet}
-use Rattle.sheet.specs.Sheets.{credit, gridOf, SameRows}
+use Rattle.sheet.specs.Sheets.{credit, gridOf}
 use Rattle.sheet.proofs.Cells.{credit-cell}
 
 -- a cell of a grid that is cut to size
@@ -22,13 +21,6 @@ sized-cell n m g i j li lj = ap (λ (r : List ℕ). getD r j 0) (sized-row n m g
 module _ (m : Memory.Book) where
   pub cell-in : (sheet : Sheet) (i j : ℕ) → i < m .seats → j < m .windows → cell (cellsIn m sheet) i j ≡ credit sheet i j
   cell-in sheet i j li lj = sized-cell (m .seats) (m .windows) (gridOf sheet) i j li lj ∙ sym (credit-cell sheet i j)
-
-  -- only the used rows of the caps count
-  pub book-same : (g h : Grid) → SameRows (m .seats) g h → bookIn m g ≡ bookIn m h
-  unfolding bookIn sizedGrid
-  book-same g h e =
-      ap (λ (c : Grid). record { classes = sized (m .seats) (m .classes); supplies = sized (m .windows) (m .supplies); caps = c })
-      (table-same (m .seats) _ _ (λ i l. ap (sized (m .windows)) (e i l)))
 
   module _ (caps : Grid) where
     pub cap-in : (i j : ℕ) → i < m .seats → j < m .windows → cell (bookIn m caps .caps) i j ≡ cell caps i j

@@ -59,9 +59,9 @@ impl Day {
     {
         Day {
             book,
-            caps: Sheet::from_grid(caps, 32),
+            caps: Sheet::from_grid(caps),
             has_sheet,
-            sheet: Sheet::from_grid(sheet, 32),
+            sheet: Sheet::from_grid(sheet),
         }
     }
 }

@@ -18,7 +18,7 @@ fn settled_grid(grid: Caps, t: Terms, caps: Caps) -> Sheet
     let mut filled = grid;
     fill::fill(&mut filled, caps, t);
     start::even_out(&mut filled, caps, t);
-    settle::settle(Sheet::from_grid(filled, t.seats), caps, t)
+    settle::settle(Sheet::from_grid(filled), caps, t)
 }
 
 // A settled sheet, from any feasible sheet of these terms.
@@ -27,7 +27,7 @@ pub fn settled_from(sheet: Sheet, t: Terms, caps: Caps) -> Sheet
     requires { ⌜ Feasible (instanceIn t caps) (credit sheet) ⌝ }
     ensures { λ r. ⌜ ((I : Instance) → Told I t caps → Settled I (credit r)) ⌝ }
 {
-    settled_grid(sheet.to_grid(t.seats), t, caps)
+    settled_grid(sheet.to_grid(), t, caps)
 }
 
 // A settled sheet of these terms.

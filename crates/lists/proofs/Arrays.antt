@@ -6,7 +6,7 @@ use Prim.Native.Nat.{ℕ, zero, suc, _+_, _≤_, _<_, zero-le}
 use native.Mathlib.Decide.{ℕ-discrete, decLt}
 use native.Mathlib.Omega.{arith}
 use lib.ListN.{length, getD, set, replicate, length-set, getD-replicate}
-use lib.Seq.{getD-set-same, getD-set-other}
+use lib.Seq.{getD-set-same, getD-set-other, ext-getD}
 use Rattle.fairness.specs.Leximin.{table}
 pub use Rattle.lists.specs.Arrays.{Filled}
 use Rattle.lists.proofs.Tables.{table-is, table-at, table-out}
@@ -47,6 +47,12 @@ module _ {A : Type 0} {P : ℕ → A → Type 0} {d : A} {n m : ℕ} {old : List
   filled-at f l k h = f .entry k (omega arith)
 
 -- ---- where each entry is to be f of its index
+
+module _ {A : Type 0} {d : A} {n : ℕ} {old : List A} where
+  -- an array is copied
+  pub filled-copy : {ys : List A} {i : ℕ} {xs : List A} → Filled (λ k x. x ≡ getD ys k d) d n n old i xs → n ≤ i → length ys ≡ n → xs ≡ ys
+  filled-copy {ys} {i} {xs} h l e =
+      ext-getD d xs ys (h .size ∙ sym e) (λ k lk. h .entry k (omega (arith, h .size)))
 
 -- ---- as many of c elements as there is room for, in an array that was blank: entry k is made by p of the element g k, and past these of z
 

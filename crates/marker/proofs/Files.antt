@@ -23,7 +23,7 @@ use Rattle.dayfile.proofs.Tests.{when-none}
 use Rattle.dayfile.proofs.Sound.{sound}
 use Rattle.dayfile.proofs.Accepted.{fits}
 use Rattle.sheet.specs.declared.Sheet.{Sheet}
-use Rattle.sheet.specs.Sheets.{gridOf, SameRows}
+use Rattle.sheet.specs.Sheets.{gridOf}
 use Rattle.marker.specs.declared.Marking.{Marking}
 use Rattle.marker.specs.declared.Marking.the-variants.{Refused}
 use Rattle.marker.specs.Marking as marking
@@ -31,7 +31,6 @@ use Rattle.marker.specs.Marking.{Marks}
 use Rattle.marker.specs.Steps.{MarkedAs, Markable}
 use Rattle.lawful.proofs.Accepted.{accepted-lawful, has-sheet-of}
 use Rattle.dayfile.proofs.Readings.{read-day}
-use Rattle.dayfile.proofs.Used.{book-same, range-in}
 
 -- the sheet that is in memory, where there is one
 cells-of : (m : Memory.Book) (there : Bool) (sheet : Sheet) (s : Grid) → sheetIn m there (gridOf sheet) ≡ some s → cellsIn m sheet ≡ s
@@ -76,14 +75,9 @@ module _ (f before : List ℕ) (passed : firstOf (markLines f (length before)) �
       let e = none-holds (bufferLines (length before) movesRoom) (parts .1) in
       ltb-false (length before) movesRoom (when-none (ltb (length before) movesRoom) movesRoom (e .0))
 
-  pub few-seats : (r : Reading) → Reads f r → r .day .book .seats ≤ 32
-  few-seats r reads =
-      let fit : Fit (dayBook (r .day)) = rw (book-read f r reads (parts .0)) (fit-read f r reads (parts .0)) in
-      range-in (r .day .book) (gridOf (r .day .caps)) fit .0
-
-  module _ (r : Reading) (reads : Reads f r) (caps : Grid) (caps-are : SameRows (r .day .book .seats) caps (gridOf (r .day .caps))) where
+  module _ (r : Reading) (reads : Reads f r) (caps : Grid) (caps-are : caps ≡ gridOf (r .day .caps)) where
     book-is : bookIn (r .day .book) caps ≡ bookOf f
-    book-is = book-same (r .day .book) caps (gridOf (r .day .caps)) caps-are ∙ book-read f r reads (parts .0)
+    book-is = ap (bookIn (r .day .book)) caps-are ∙ book-read f r reads (parts .0)
 
     sheet-is : cellsIn (r .day .book) (r .day .sheet) ≡ marking.markedSheet f
     sheet-is = sheet-read f r reads (parts .0)

@@ -131,7 +131,7 @@ pub fn mark_reading(file: &[u8], reading: Reading, moves: &mut [u8]) -> Marking
     let day = reading.day;
     let book = day.book;
     let caps = day.caps;
-    mark_sheet(book, caps.to_grid(book.seats), day.sheet, moves)
+    mark_sheet(book, caps.to_grid(), day.sheet, moves)
 }
 
 // The mark of the sheet in a day file; the path of marks 2 and 3 is written to the front of the buffer.

@@ -38,7 +38,7 @@ pub fn plan(file: &[u8], out: &mut [u8]) -> Written
         };
     }
     day.has_sheet = true;
-    day.sheet = planned_sheet(book, day.caps.to_grid(book.seats));
+    day.sheet = planned_sheet(book, day.caps.to_grid());
     let length = store::put_file(out, day);
     Written::Whole { length }
 }

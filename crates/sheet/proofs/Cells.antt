@@ -6,12 +6,12 @@ use Prim.Native.Nat.{ℕ, zero, suc, _<_}
 use native.Mathlib.Decide.{ℕ-discrete}
 use native.Mathlib.Omega.{arith}
 use lib.ListN.{length, getD, set, replicate, length-set, List·getD-map}
-use lib.Seq.{getD-set-same, getD-set-other, ext-getD}
+use lib.Seq.{getD-set-same, getD-set-other}
 use Rattle.lists.proofs.Arrays.{zeros-at}
 use Rattle.model.specs.Book.{Grid, cell, Shaped}
 use Rattle.sheet.specs.declared.Row.{Row}
 use Rattle.sheet.specs.declared.Sheet.{Sheet}
-use Rattle.sheet.specs.Sheets.{noRow, credit, gridOf, SameRows, Written}
+use Rattle.sheet.specs.Sheets.{noRow, credit, gridOf, Written}
 
 -- ---- a sheet and its grid
 
@@ -26,10 +26,6 @@ credit-cell s i j = ap (λ (l : List ℕ). getD l j 0) (sym (row-is s i))
 -- the same functions
 pub credit-is : (s : Sheet) → credit s ≡ cell (gridOf s)
 credit-is s = fun-ext (λ i. fun-ext (λ j. credit-cell s i j))
-
--- grids of n rows that have the same first n rows
-pub same-rows : (n : ℕ) (g h : Grid) → SameRows n g h → length g ≡ n → length h ≡ n → g ≡ h
-same-rows n g h e p q = ext-getD [] g h (p ∙ sym q) (λ i l. e i (omega arith))
 
 -- rows of zeros
 pub all-zero : (n m i j : ℕ) → credit (record { rows = replicate n (record { cells = replicate m 0 }) }) i j ≡ 0

@@ -23,10 +23,6 @@ credit s seat window = getD (getD (s .rows) seat noRow .cells) window 0
 unfoldable pub gridOf : Sheet → Grid
 gridOf s = map (λ (r : Row). r .cells) (s .rows)
 
--- two grids have the same first n rows
-abbrev pub SameRows : ℕ → Grid → Grid → Type 0
-SameRows n g h = (i : ℕ) → i < n → getD g i [] ≡ getD h i []
-
 -- the move of the crate `fairness` that a move in memory is
 abbrev pub moveOf : Move → exchange.Move
 moveOf m = record { window = m .window; giver = m .giver; taker = m .taker }

@@ -5,7 +5,7 @@ ghost use lib.ListN.{getD};
 ghost use Rattle.fairness.specs.Sums.{sum};
 ghost use Rattle.fairness.specs.Exchange.{play};
 ghost use Rattle.model.specs.Book.{cell};
-ghost use Rattle.sheet.specs.Sheets.{credit, gridOf, moveOf, Playable, SameRows};
+ghost use Rattle.sheet.specs.Sheets.{credit, gridOf, moveOf, Playable};
 
 // A seat's cells, one for each window.
 #[repr(C)]
@@ -113,13 +113,12 @@ impl Sheet {
         self
     }
 
-    // The first rows as a bare array of arrays: those of the seats that a book has.
-    pub fn to_grid(self, seats: usize) -> Caps
-        requires { ⌜ seats ≤ 32 ⌝ }
-        ensures { λ r. ⌜ SameRows seats r (gridOf self) ⌝ }
+    // The cells as a bare array of arrays.
+    pub fn to_grid(self) -> Caps
+        ensures { λ r. ⌜ r ≡ gridOf self ⌝ }
     {
         let mut grid = [[0u16; 24]; 32];
-        for i in 0..seats {
+        for i in 0..32 {
             let row = self.rows[i];
             let cells = row.cells;
             grid[i] = cells;
@@ -127,13 +126,12 @@ impl Sheet {
         grid
     }
 
-    // The sheet with the first rows of a bare array of arrays.
-    pub fn from_grid(grid: Caps, seats: usize) -> Sheet
-        requires { ⌜ seats ≤ 32 ⌝ }
-        ensures { λ r. ⌜ SameRows seats (gridOf r) grid ⌝ }
+    // The sheet with the cells of a bare array of arrays.
+    pub fn from_grid(grid: Caps) -> Sheet
+        ensures { λ r. ⌜ gridOf r ≡ grid ⌝ }
     {
         let mut sheet = Sheet::zero();
-        for i in 0..seats {
+        for i in 0..32 {
             let row = Row { cells: grid[i] };
             sheet.rows[i] = row;
         }

@@ -149,7 +149,7 @@ fn judge_sheets(tally: Tally, s: Small, best: Best) -> Tally {
 fn rightly_planned(s: Small, best: Best, file: &[u8]) -> bool {
     let read = reader::read(file);
     let day = read.day;
-    let cells = cells_of(day.sheet.to_grid(32));
+    let cells = cells_of(day.sheet.to_grid());
     let mut moves = [255u8; MOVES_ROOM];
     let m = marker::mark(file, &mut moves);
     rightly_settled(s, best, cells) && rightly_marked(s, best, cells, m, &moves)

@@ -17,7 +17,7 @@ use Rattle.dayfile.specs.declared.Book as Memory
 use Rattle.dayfile.proofs.Search.{same-search}
 use Rattle.dayfile.proofs.Held.{seats-in, windows-in}
 use Rattle.sheet.specs.declared.Sheet.{Sheet}
-use Rattle.sheet.specs.Sheets.{credit, gridOf, SameRows}
+use Rattle.sheet.specs.Sheets.{credit, gridOf}
 use Rattle.sheet.proofs.Cells.{credit-cell}
 use Rattle.waste.specs.Wastes.{lowestBelow, Tells}
 use Rattle.waste.specs.declared.Waste.the-variants.{Nowhere, At}
@@ -34,10 +34,10 @@ module _
     (given : List ℕ)
     (given-is : (j : ℕ) → j < m .windows → getD given j 0 ≡ sum (m .seats) (λ i. credit sheet i j))
     (cells : Grid)
-    (cells-are : SameRows (m .seats) cells (gridOf sheet))
+    (cells-are : cells ≡ gridOf sheet)
   where
     cell-is : (i j : ℕ) → i < m .seats → j < m .windows → cell (cellsIn m sheet) i j ≡ cell cells i j
-    cell-is i j li lj = cell-in m sheet i j li lj ∙ credit-cell sheet i j ∙ ap (λ (r : List ℕ). getD r j 0) (sym (cells-are i li))
+    cell-is i j li lj = cell-in m sheet i j li lj ∙ credit-cell sheet i j ∙ ap (λ (g : Grid). cell g i j) (sym cells-are)
 
     below-is : (j : ℕ) → j < m .windows → seatBelow (bookIn m caps) (cellsIn m sheet) j ≡ lowestBelow cells caps (m .seats) j
     unfolding seatBelow lowestBelow

@@ -38,7 +38,7 @@ pub fn wasted(book: Book, caps: Caps, sheet: Sheet) -> Waste
     let seats = book.seats;
     let windows = book.windows;
     let placed = sheet.placed(seats, windows);
-    let cells = sheet.to_grid(seats);
+    let cells = sheet.to_grid();
     let mut window = 0;
     while window < windows {
         if placed[window] < supplies[window] as u32 {

@@ -4,9 +4,6 @@ use Rattle.engine.proofs.Starting.{grid-feasible}
 use Rattle.engine.proofs.settled_from.Statement.{statement}
 use Rattle.engine.proofs.settled_from.Tie as tie
 
-to-grid-requires : tie.Need-to-grid-requires
-to-grid-requires c κs = c .pre .0 .ranged .seats-most
-
 settled-grid-requires : tie.Need-settled-grid-requires
 settled-grid-requires c κs =
     let b = c .before in
@@ -14,4 +11,4 @@ settled-grid-requires c κs =
     (b .pre .0, grid-feasible (a .t) (a .caps) (a .sheet) (c .to-grid .result) (c .to-grid .ensures) (b .pre .1))
 
 pub settled-from-spec : {M : Type 1} → statement M
-settled-from-spec = tie.close (tie.spec to-grid-requires settled-grid-requires (λ c. search needs))
+settled-from-spec = tie.close (tie.spec (λ c κs. search needs) settled-grid-requires (λ c. search needs))

@@ -2,7 +2,7 @@
 use borrow.Author.Needs.{needs}
 use denote.Ref.{now}
 use Rattle.dayfile.proofs.Answers.{refuses, passes}
-use Rattle.marker.proofs.Files.{refused-marks, has-room, few-seats, markable, marked-marks}
+use Rattle.marker.proofs.Files.{refused-marks, has-room, markable, marked-marks}
 use Rattle.marker.proofs.mark_reading.Statement.{statement}
 use Rattle.marker.proofs.mark_reading.Tie as tie
 
@@ -11,14 +11,6 @@ check-file-requires c κs = c .before .before .pre
 
 returns : tie.Need-returns
 returns c = refused-marks _ _ _ _ (refuses (c .before .before .before .check-file .ensures) (c .before .number .given .1))
-
-to-grid-requires : tie.Need-to-grid-requires
-to-grid-requires c κs =
-    let k = c .before .before .before in
-    let f = k .before .before in
-    let start = f .before .before .before in
-    let passed = passes (f .check-file .ensures) (k .enum-told .given .1) in
-    few-seats _ (now (start .args .moves)) passed _ (start .pre)
 
 mark-sheet-requires : tie.Need-mark-sheet-requires
 mark-sheet-requires c κs =
@@ -42,5 +34,5 @@ returns-2 c =
 
 pub mark-reading-spec : {M : Type 1} → statement M
 mark-reading-spec =
-    tie.close (tie.spec check-file-requires (λ c. search needs) returns (λ c. search needs) to-grid-requires mark-sheet-requires
+    tie.close (tie.spec check-file-requires (λ c. search needs) returns (λ c. search needs) (λ c κs. search needs) mark-sheet-requires
     (λ c. search needs) returns-2)

@@ -7,13 +7,12 @@ use native.Mathlib.Omega.{arith}
 use borrow.Author.Needs.{needs}
 use denote.Ref.{now}
 use Rattle.fairness.specs.Exchange.{Settled}
-use Rattle.model.specs.Book.{Book, instanceOf}
+use Rattle.model.specs.Book.{Grid, instanceOf}
 use Rattle.dayfile.specs.Bounds.{Fit}
 use Rattle.dayfile.specs.declared.Day.{Day}
 use Rattle.dayfile.specs.Table.{firstOf, readLines, plannedLength}
-use Rattle.dayfile.specs.Memory.{dayBook}
+use Rattle.dayfile.specs.Memory.{bookIn, dayBook}
 use Rattle.dayfile.proofs.Held.{seats-in, windows-in}
-use Rattle.dayfile.proofs.Used.{book-same}
 use Rattle.dayfile.proofs.Readings.{read-refused, read-sound, read-fits}
 use Rattle.sheet.specs.Sheets.{credit, gridOf}
 use Rattle.planner.proofs.Steps.{planned-size, planned-is, plan-refused, plan-short, plan-whole}
@@ -54,18 +53,11 @@ returns-2 c =
     let k = n .before in
     plan-short _ _ _ (k .before .before .before .before .read .ensures) (free k) _ (needed n) (c .if1 .taken)
 
-to-grid-requires : tie.Need-to-grid-requires
-to-grid-requires c κs =
-    let k = c .before .before in
-    let read = k .before .before .before .before .read in
-    sized (read .result .day) (read-fits _ _ (read .ensures) (free k)) .0
-
 planned-sheet-requires : tie.Need-planned-sheet-requires
 planned-sheet-requires c κs =
     let k = c .before .before .before in
     let read = k .before .before .before .before .read in
-    let same = book-same (read .result .day .book) (c .to-grid .result) _ (c .to-grid .ensures) in
-    rw same (read-fits _ _ (read .ensures) (free k))
+    subst (λ (g : Grid). Fit (bookIn (read .result .day .book) g)) (sym (c .to-grid .ensures)) (read-fits _ _ (read .ensures) (free k))
 
 put-file-requires : tie.Need-put-file-requires
 put-file-requires c κs =
@@ -86,8 +78,8 @@ returns-3 c =
     let read = k .before .before .before .before .read in
     let d = read .result .day in
     let planned = sheet .planned-sheet .result in
-    let same = book-same (d .book) (sheet .before .to-grid .result) _ (sheet .before .to-grid .ensures) in
-    let settled = subst (λ (b : Book). Settled (instanceOf b) (credit planned)) same (sheet .planned-sheet .ensures) in
+    let settled = subst (λ (g : Grid). Settled (instanceOf (bookIn (d .book) g)) (credit planned)) (sheet .before .to-grid .ensures)
+    (sheet .planned-sheet .ensures) in
     plan-whole _ _ _ (read .ensures) (free k) _ (needed n) (sheet .before .before .if1 .left) _ _
     (put .put-file .ensures .0 ∙ planned-size d planned ∙ sym (needed n))
     (planned-is d planned settled _ _ (put .put-file .ensures .1))
@@ -95,4 +87,4 @@ returns-3 c =
 pub plan-spec : {M : Type 1} → statement M
 plan-spec =
     tie.close (tie.spec (λ c κs. search needs) (λ c. search needs) returns (λ c. search needs) file-length-requires returns-2
-    to-grid-requires planned-sheet-requires put-file-requires (λ c. search needs) returns-3)
+    (λ c κs. search needs) planned-sheet-requires put-file-requires (λ c. search needs) returns-3)

@@ -4,19 +4,19 @@ use mathlib.Core.Path.{_≡_, refl}
 use mathlib.Core.List.{[]}
 use Prim.Native.Nat.{_-_}
 use lib.ListN.{getD}
-use Rattle.lists.proofs.Arrays.{Filled, filled-first, filled-next, filled-at}
+use Rattle.lists.proofs.Arrays.{Filled, filled-first, filled-next, filled-copy}
 use Rattle.sheet.specs.declared.Row.{Row}
 use Rattle.sheet.specs.Sheets.{gridOf}
 use Rattle.sheet.proofs.Cells.{set-row}
-use Rattle.sheet.proofs.Shapes.{shaped}
+use Rattle.sheet.proofs.Shapes.{Held, is-grid, shaped}
 use Rattle.sheet.proofs.Sheet.from_grid.Statement.{statement}
 use Rattle.sheet.proofs.Sheet.from_grid.Tie as tie
 
 abbrev Inv-loop : tie.InvT-loop
-Inv-loop seats grid sheet₀ i₀ sheet i = Filled (λ k row. row ≡ getD grid k []) [] 32 seats (gridOf sheet₀) i (gridOf sheet)
+Inv-loop grid sheet₀ i₀ sheet i = Filled (λ k row. row ≡ getD grid k []) [] 32 32 (gridOf sheet₀) i (gridOf sheet)
 
 abbrev μ-loop : tie.MeasureT-loop
-μ-loop seats grid sheet₀ i₀ sheet i = seats - i
+μ-loop grid sheet₀ i₀ sheet i = 32 - i
 
 loop-again : tie.Need-loop-again Inv-loop μ-loop
 loop-again c =
@@ -25,7 +25,9 @@ loop-again c =
     rw (set-row (l .sheet) (l .i) row) (filled-next (l .inv) (search needs) refl)
 
 returns : tie.Need-returns Inv-loop μ-loop
-returns c = filled-at (c .before .loop .inv) (search needs)
+returns c =
+    let h : Held (c .before .before .before .args .t1) = search (needs, is-grid) in
+    filled-copy (c .before .loop .inv) (search needs) (h .shape .rows)
 
 pub from-grid-spec : {M : Type 1} → statement M
 from-grid-spec =
