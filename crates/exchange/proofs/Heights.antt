@@ -24,11 +24,11 @@ abbrev pub Known : Sheet → ℕ → ℕ → List ℕ → List ℕ → ℕ → L
 Known sheet seats windows bases hs₀ k hs =
     Filled (λ i h. h ≡ getD bases i 0 + sum windows (λ j. credit sheet i j)) 0 32 seats hs₀ k hs
 
-pub scored : (sheet : Sheet) (t : Terms) (k : ℕ) (hs₀ hs : List ℕ) → t .seats ≤ k
+pub scored : (sheet : Sheet) (caps : Grid) (t : Terms) (k : ℕ) (hs₀ hs : List ℕ) → t .seats ≤ k
     → Known sheet (t .seats) (t .windows) (t .bases) hs₀ k hs
-    → (I : Instance) (S : ℕ → ℕ → ℕ) (caps : Grid) → Told I t caps → Shows t S sheet
+    → (I : Instance) (S : ℕ → ℕ → ℕ) → Told I t caps → Shows t S sheet
     → Scored I S (record { heights = hs; weights = t .weights; positions = t .positions })
-scored sheet t k hs₀ hs l known I S caps told shows =
+scored sheet caps t k hs₀ hs l known I S told shows =
     let seat : (i : ℕ) → i < I .seats → i < t .seats = λ i li. omega (arith, told .seats-are) in
     record {
       heights-are = λ i li.
