@@ -20,7 +20,7 @@ use Rattle.search.specs.Tests.{testBy, scoreAt}
 use Rattle.search.specs.Steps.{Drawn, Donor, NoDonor, FirstPair, Nearest}
 use Rattle.search.proofs.Bridge.{within-reach, reach-seat}
 use Rattle.exchange.specs.Paths.{Chosen}
-use Rattle.exchange.specs.Tests.{testOf, Scored}
+use Rattle.exchange.proofs.Tests.{testOf, Scored}
 
 -- ---- the tests
 

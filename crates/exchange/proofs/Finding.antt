@@ -20,7 +20,7 @@ use Rattle.search.specs.declared.Kind.the-variants.{None, Improving, WronglyTie
 use Rattle.search.specs.Paths.{movesOf}
 use Rattle.search.specs.Steps.{Drawn, NoDonor, Nearest, FirstPath, Finds}
 use Rattle.exchange.specs.Paths.{InByte, Writable, Chosen, Answers}
-use Rattle.exchange.specs.Tests.{testOf, Scored}
+use Rattle.exchange.proofs.Tests.{testOf, Scored}
 use Rattle.exchange.proofs.Choosing.{chosen, nobody}
 
 -- ---- it can be written

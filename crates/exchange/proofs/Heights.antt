@@ -17,7 +17,7 @@ use Rattle.instance.specs.Terms.{instanceIn, Told, Shows, Small}
 use Rattle.instance.proofs.Told.{feasible-small}
 use Rattle.search.specs.declared.Scores.{Scores}
 use Rattle.search.specs.Tests.{Bounded}
-use Rattle.exchange.specs.Tests.{Scored}
+use Rattle.exchange.proofs.Tests.{Scored}
 
 -- the first k heights are known
 abbrev pub Known : Sheet → ℕ → ℕ → List ℕ → List ℕ → ℕ → List ℕ → Type 0

@@ -4,7 +4,6 @@ ghost use mathlib.Core.Logic.{_⊎_, _↔_};
 ghost use Prim.Native.Nat.{ℕ, _≤_, _<_};
 ghost use lib.ListN.{getD};
 ghost use Rattle.fairness.specs.Instance.{Instance, Feasible};
-ghost use Rattle.model.specs.Book.{Grid};
 ghost use Rattle.sheet.specs.Sheets.{credit};
 ghost use Rattle.instance.specs.Terms.{instanceIn, Told, Shows, Small};
 ghost use Rattle.masks.specs.Sets.{In};
@@ -65,6 +64,7 @@ pub fn find_path(sheet: Sheet, caps: Caps, t: Terms) -> ExchangePath
     let mut heights = [0u32; 32];
     let mut rooms = [0u32; 32];
     let mut holders = [0u32; 24];
+    // Rows go on to the helpers: each function that takes a sheet or caps by value costs a copy of them.
     for seat in 0..seats {
         let row = sheet.rows[seat];
         let cells = row.cells;

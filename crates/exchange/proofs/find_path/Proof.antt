@@ -69,8 +69,7 @@ find-requires c κs =
     let start = c .before .before .before .before .before in
     let a = start .args in
     let p = start .pre in
-    let scores = scored (a .t1) (a .t2) (a .t) (at .seat) _ (at .heights) (search needs) (at .inv .0) in
-    (
+    let scores = scored (a .t1) (a .t2) (a .t) (at .seat) _ (at .heights) (search needs) (at .inv .0) in (
       p .0 .ranged .seats-most,
       bounded (a .t) (a .t2) (a .t1) _ (p .0) (p .1) (scores _ _ (told-in (a .t) (a .t2)) (shows-itself (a .t) (a .t1))),
     )
