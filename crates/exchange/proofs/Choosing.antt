@@ -17,10 +17,10 @@ use Rattle.search.specs.declared.Kind.{Kind}
 use Rattle.search.specs.declared.Kind.the-variants.{None, Improving, WronglyTied}
 use Rattle.search.specs.Paths.{movesOf}
 use Rattle.search.specs.Tests.{testBy, scoreAt}
-use Rattle.search.specs.Steps.{Drawn, Donor, FirstPair, Nearest}
+use Rattle.search.specs.Steps.{Drawn, Donor, NoDonor, FirstPair, Nearest}
 use Rattle.search.proofs.Bridge.{within-reach, reach-seat}
 use Rattle.exchange.specs.Paths.{Chosen}
-use Rattle.exchange.specs.Tests.{testOf, Scored}
+use Rattle.exchange.proofs.Tests.{testOf, Scored}
 
 -- ---- the tests
 
@@ -67,7 +67,7 @@ module _ (I : Instance) (S : Sheet) (scores : Scores) (s : Scored I S scores) wh
         go ns p (yes h) = absurd (nearest .fewest (length ns) h (within-reach I S graph d (length ns) g l (path-within I S g l ns p)))
         go ns p (no h) = omega (arith, nearest .counted)
 
-    pub nobody : ((g l : ℕ) → g < seats → Donor kind scores graph seats g l → ⊥) → Exchange I S (testOf kind I S) → ⊥
+    pub nobody : NoDonor kind scores graph seats → Exchange I S (testOf kind I S) → ⊥
     nobody none x = go (x .moves) (x .path)
       where
         go : (ms : List Move) → Path I S (x .receiver) (x .donor) ms → ⊥

@@ -1,4 +1,4 @@
--- What the search answers, from what its parts do. Assumes nothing.
+-- What the search answers, from what it finds in memory. Assumes nothing.
 use mathlib.Core.Path.{_≡_, refl}
 use mathlib.Core.List.{List, [], _∷_}
 use Prim.Native.Nat.{ℕ, _≤_, _<_}
@@ -17,11 +17,10 @@ use Rattle.search.specs.declared.ExchangePath.{ExchangePath}
 use Rattle.search.specs.declared.Scores.{Scores}
 use Rattle.search.specs.declared.Kind.{Kind}
 use Rattle.search.specs.declared.Kind.the-variants.{None, Improving, WronglyTied}
-use Rattle.search.specs.declared.Pair.the-variants.{Nobody}
 use Rattle.search.specs.Paths.{movesOf}
-use Rattle.search.specs.Steps.{Drawn, FirstPair, Firsts, Nearest}
+use Rattle.search.specs.Steps.{Drawn, NoDonor, Nearest, FirstPath, Finds}
 use Rattle.exchange.specs.Paths.{InByte, Writable, Chosen, Answers}
-use Rattle.exchange.specs.Tests.{testOf, Scored}
+use Rattle.exchange.proofs.Tests.{testOf, Scored}
 use Rattle.exchange.proofs.Choosing.{chosen, nobody}
 
 -- ---- it can be written
@@ -37,11 +36,11 @@ possible-in-byte I S (x ∷ xs) n m a =
     } in
     (byte, possible-in-byte I S xs n m (a .1))
 
-pub none-writable : (x : ExchangePath) → x .count ≡ 0 → Writable x
+none-writable : (x : ExchangePath) → x .count ≡ 0 → Writable x
 none-writable x e = record { few = omega arith; counted = rw e refl; small = rw e tt }
 
 module _ (I : Instance) (S : Sheet) (graph : Graph) (d : Drawn I S graph) (few-seats : I .seats ≤ 32) (few-windows : I .windows ≤ 24) where
-  pub writable : (kind : Kind) (g l : ℕ) (x : ExchangePath) → g < I .seats → Nearest kind graph g l x → Writable x
+  writable : (kind : Kind) (g l : ℕ) (x : ExchangePath) → g < I .seats → Nearest kind graph g l x → Writable x
   writable kind g l x seat n =
       let path = n .path I S d in
       let short = path-length I S g l (movesOf x) seat path in
@@ -54,46 +53,32 @@ module _ (I : Instance) (S : Sheet) (graph : Graph) (d : Drawn I S graph) (few-s
 -- ---- the answer
 
 module _ (t : Terms) (caps : Grid) (sheet : memory.Sheet) (ranged : Ranged t) (scores : Scores) (graph : Graph)
-    (scored : (I : Instance) (S : Sheet) (caps : Grid) → Told I t caps → Shows t S sheet → Scored I S scores)
+    (scored : (I : Instance) (S : Sheet) → Told I t caps → Shows t S sheet → Scored I S scores)
     (drawn : (I : Instance) (S : Sheet) → Told I t caps → Shows t S sheet → Drawn I S graph) where
-  -- what an exchange path is, for every instance and sheet that the memory tells and shows
-  abbrev Right : ExchangePath → Type 0
-  Right x = (I : Instance) (S : Sheet) → Told I t caps → Shows t S sheet → Answers I S (x .kind) (x .receiver) (x .donor) (movesOf x)
-
-  -- no receiver has a donor of this kind
-  abbrev NoneOf : Kind → Type 0
-  NoneOf kind = Firsts kind scores graph (t .seats) Nobody
-
   module _ (kind : Kind) (I : Instance) (S : Sheet) (told : Told I t caps) (shows : Shows t S sheet) where
-    picks : (g l : ℕ) (x : ExchangePath) → FirstPair kind scores graph (t .seats) g l → Nearest kind graph g l x
-        → Chosen I S (testOf kind I S) g l (movesOf x)
-    picks = chosen I S scores (scored I S caps told shows) kind graph (drawn I S told shows) (t .seats) (told .seats-are)
+    picks : (x : ExchangePath) → FirstPath kind scores graph (t .seats) x
+        → Chosen I S (testOf kind I S) (x .receiver) (x .donor) (movesOf x)
+    picks x f =
+        chosen I S scores (scored I S told shows) kind graph (drawn I S told shows) (t .seats) (told .seats-are) _ _ x (f .0) (f .1)
 
-    lacks : NoneOf kind → Exchange I S (testOf kind I S) → ⊥
-    lacks = nobody I S scores (scored I S caps told shows) kind graph (drawn I S told shows) (t .seats) (told .seats-are)
+    lacks : NoDonor kind scores graph (t .seats) → Exchange I S (testOf kind I S) → ⊥
+    lacks = nobody I S scores (scored I S told shows) kind graph (drawn I S told shows) (t .seats) (told .seats-are)
 
-  writes : (kind : Kind) (g l : ℕ) (x : ExchangePath) → FirstPair kind scores graph (t .seats) g l → Nearest kind graph g l x → Writable x
-  writes kind g l x f near =
+  writes : (kind : Kind) (x : ExchangePath) → FirstPath kind scores graph (t .seats) x → Writable x
+  writes kind x f =
       writable (instanceIn t caps) (credit sheet) graph (drawn _ _ (told-in t caps) (shows-itself t sheet))
-      (ranged .seats-most) (ranged .windows-most) kind g l x (f .seat) near
+      (ranged .seats-most) (ranged .windows-most) kind _ _ x (f .0 .seat) (f .1)
 
-  module _ (g l : ℕ) (x : ExchangePath) where
-    pub finds-improving : FirstPair Improving scores graph (t .seats) g l → Nearest Improving graph g l x → Writable x × Right x
-    finds-improving f near = (
-      writes Improving g l x f near,
-      λ I S told shows. rw (near .kind-is, near .receiver-is, near .donor-is) (picks Improving I S told shows g l x f near),
-    )
-
-    pub finds-tied : NoneOf Improving → FirstPair WronglyTied scores graph (t .seats) g l → Nearest WronglyTied graph g l x
-        → Writable x × Right x
-    finds-tied none f near = (
-      writes WronglyTied g l x f near,
-      λ I S told shows. rw (near .kind-is, near .receiver-is, near .donor-is)
-          (lacks Improving I S told shows none, picks WronglyTied I S told shows g l x f near),
-    )
-
-  pub finds-none : (x : ExchangePath) → (x .kind ≡ None) × (x .count ≡ 0) → NoneOf Improving → NoneOf WronglyTied → Writable x × Right x
-  finds-none x e a b = (
-    none-writable x (e .1),
-    λ I S told shows. rw (e .0) (lacks Improving I S told shows a, lacks WronglyTied I S told shows b),
+  -- what the search finds is right for every instance and sheet that the memory tells and shows
+  pub finds-right : (kind : Kind) (x : ExchangePath) → Finds kind scores graph (t .seats) x
+      → Writable x × ((I : Instance) (S : Sheet) → Told I t caps → Shows t S sheet
+      → Answers I S kind (x .receiver) (x .donor) (movesOf x))
+  finds-right None x f = (
+    none-writable x (f .0),
+    λ I S told shows. (lacks Improving I S told shows (f .1 .0), lacks WronglyTied I S told shows (f .1 .1)),
+  )
+  finds-right Improving x f = (writes Improving x f, λ I S told shows. picks Improving I S told shows x f)
+  finds-right WronglyTied x f = (
+    writes WronglyTied x (f .1),
+    λ I S told shows. (lacks Improving I S told shows (f .0), picks WronglyTied I S told shows x (f .1)),
   )

@@ -17,18 +17,18 @@ use Rattle.instance.specs.Terms.{instanceIn, Told, Shows, Small}
 use Rattle.instance.proofs.Told.{feasible-small}
 use Rattle.search.specs.declared.Scores.{Scores}
 use Rattle.search.specs.Tests.{Bounded}
-use Rattle.exchange.specs.Tests.{Scored}
+use Rattle.exchange.proofs.Tests.{Scored}
 
 -- the first k heights are known
 abbrev pub Known : Sheet → ℕ → ℕ → List ℕ → List ℕ → ℕ → List ℕ → Type 0
 Known sheet seats windows bases hs₀ k hs =
     Filled (λ i h. h ≡ getD bases i 0 + sum windows (λ j. credit sheet i j)) 0 32 seats hs₀ k hs
 
-pub scored : (sheet : Sheet) (t : Terms) (k : ℕ) (hs₀ hs : List ℕ) → t .seats ≤ k
+pub scored : (sheet : Sheet) (caps : Grid) (t : Terms) (k : ℕ) (hs₀ hs : List ℕ) → t .seats ≤ k
     → Known sheet (t .seats) (t .windows) (t .bases) hs₀ k hs
-    → (I : Instance) (S : ℕ → ℕ → ℕ) (caps : Grid) → Told I t caps → Shows t S sheet
+    → (I : Instance) (S : ℕ → ℕ → ℕ) → Told I t caps → Shows t S sheet
     → Scored I S (record { heights = hs; weights = t .weights; positions = t .positions })
-scored sheet t k hs₀ hs l known I S caps told shows =
+scored sheet caps t k hs₀ hs l known I S told shows =
     let seat : (i : ℕ) → i < I .seats → i < t .seats = λ i li. omega (arith, told .seats-are) in
     record {
       heights-are = λ i li.

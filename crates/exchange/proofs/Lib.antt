@@ -1,4 +1,5 @@
 -- The laws that the functions' proofs cite.
+pub mod Tests
 pub mod Heights
 pub mod Drawing
 pub mod Choosing

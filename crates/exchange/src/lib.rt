@@ -4,47 +4,20 @@ ghost use mathlib.Core.Logic.{_⊎_, _↔_};
 ghost use Prim.Native.Nat.{ℕ, _≤_, _<_};
 ghost use lib.ListN.{getD};
 ghost use Rattle.fairness.specs.Instance.{Instance, Feasible};
-ghost use Rattle.model.specs.Book.{Grid};
 ghost use Rattle.sheet.specs.Sheets.{credit};
-ghost use Rattle.instance.specs.Terms.{instanceIn, Told, Shows, Ranged, Small};
+ghost use Rattle.instance.specs.Terms.{instanceIn, Told, Shows, Small};
 ghost use Rattle.masks.specs.Sets.{In};
 ghost use Rattle.reach.specs.Graphs.{setAt, Collects};
 ghost use Rattle.search.specs.Paths.{movesOf};
-ghost use Rattle.search.specs.Steps.{Drawn};
 ghost use Rattle.exchange.specs.Paths.{Writable, Answers};
-ghost use Rattle.exchange.specs.Tests.{Scored};
 use instance::Terms;
 use reach::Graph;
 use search::ExchangePath;
-use search::Kind;
-use search::Pair;
 use search::Scores;
-use search::first_pair;
-use search::path_to;
+use search::find;
 use sheet::Caps;
-use sheet::Move;
 use sheet::Sheet;
-
-// The scores of a sheet: a seat's height is its base and its cells together.
-fn scores_of(sheet: Sheet, t: Terms) -> Scores
-    requires { ⌜ Ranged t ⌝ }
-    ensures { λ r. ⌜ ((I : Instance) (S : ℕ → ℕ → ℕ) (caps : Grid) → Told I t caps → Shows t S sheet → Scored I S r) ⌝ }
-{
-    let seats = t.seats;
-    let windows = t.windows;
-    let bases = t.bases;
-    let weights = t.weights;
-    let positions = t.positions;
-    let mut heights = [0u32; 32];
-    for i in 0..seats {
-        heights[i] = bases[i] + sheet.total(i, windows);
-    }
-    Scores {
-        heights,
-        weights,
-        positions,
-    }
-}
+use sheet::row_total;
 
 // The windows in which a row has less than another.
 fn below(a: [u16; 24], b: [u16; 24], windows: usize) -> u32
@@ -75,43 +48,6 @@ fn with_holder(holders: [u32; 24], cells: [u16; 24], windows: usize, seat: usize
     all
 }
 
-// Who can take a credit from whom on a sheet.
-fn graph_of(sheet: Sheet, caps: Caps, t: Terms) -> Graph
-    requires { ⌜ Ranged t ⌝ }
-    ensures { λ r. ⌜ ((I : Instance) (S : ℕ → ℕ → ℕ) → Told I t caps → Shows t S sheet → Drawn I S r) ⌝ }
-{
-    let seats = t.seats;
-    let windows = t.windows;
-    let mut rooms = [0u32; 32];
-    let mut holders = [0u32; 24];
-    for seat in 0..seats {
-        let row = sheet.rows[seat];
-        let cells = row.cells;
-        rooms[seat] = below(cells, caps[seat], windows);
-        let more = with_holder(holders, cells, windows, seat);
-        holders = more;
-    }
-    Graph { rooms, holders }
-}
-
-// No exchange path.
-fn no_path() -> ExchangePath
-    ensures { λ r. ⌜ (r .kind ≡ Kind.None) × (r .count ≡ 0) ⌝ }
-{
-    let none = Move {
-        window: 0,
-        giver: 0,
-        taker: 0,
-    };
-    ExchangePath {
-        kind: Kind::None,
-        receiver: 0,
-        donor: 0,
-        count: 0,
-        moves: [none; 31],
-    }
-}
-
 // An exchange path that improves, and where there is none one that ties wrongly.
 pub fn find_path(sheet: Sheet, caps: Caps, t: Terms) -> ExchangePath
     requires { ⌜ Small t caps ⌝ }
@@ -121,13 +57,27 @@ pub fn find_path(sheet: Sheet, caps: Caps, t: Terms) -> ExchangePath
         Answers I S (r .kind) (r .receiver) (r .donor) (movesOf r)) ⌝ }
 {
     let seats = t.seats;
-    let scores = scores_of(sheet, t);
-    let graph = graph_of(sheet, caps, t);
-    if let Pair::Between { receiver, donor } = first_pair(Kind::Improving, scores, graph, seats) {
-        return path_to(Kind::Improving, graph, receiver, donor);
+    let windows = t.windows;
+    let bases = t.bases;
+    let weights = t.weights;
+    let positions = t.positions;
+    let mut heights = [0u32; 32];
+    let mut rooms = [0u32; 32];
+    let mut holders = [0u32; 24];
+    // Rows go on to the helpers: each function that takes a sheet or caps by value costs a copy of them.
+    for seat in 0..seats {
+        let row = sheet.rows[seat];
+        let cells = row.cells;
+        heights[seat] = bases[seat] + row_total(cells, windows);
+        rooms[seat] = below(cells, caps[seat], windows);
+        let more = with_holder(holders, cells, windows, seat);
+        holders = more;
     }
-    if let Pair::Between { receiver, donor } = first_pair(Kind::WronglyTied, scores, graph, seats) {
-        return path_to(Kind::WronglyTied, graph, receiver, donor);
-    }
-    no_path()
+    let scores = Scores {
+        heights,
+        weights,
+        positions,
+    };
+    let graph = Graph { rooms, holders };
+    find(scores, graph, seats)
 }

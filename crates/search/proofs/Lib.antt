@@ -2,5 +2,6 @@
 pub mod Donors
 pub mod Seeing
 pub mod Walking
+pub mod Answering
 -- what callers cite
 pub mod Bridge

@@ -12,6 +12,7 @@ use Rattle.masks.specs.Sets.{In}
 use Rattle.reach.specs.declared.Graph.{Graph}
 use Rattle.reach.specs.Graphs.{setAt, Leads, Takes, Reach, Reached, Layers}
 use Rattle.search.specs.declared.Kind.{Kind}
+use Rattle.search.specs.declared.Kind.the-variants.{None, Improving, WronglyTied}
 use Rattle.search.specs.declared.Receiver.{Receiver}
 use Rattle.search.specs.declared.Receiver.the-variants as receiver
 use Rattle.search.specs.declared.Pair.{Pair}
@@ -32,6 +33,10 @@ Drawn I S graph = (k l w : ℕ) →
 abbrev pub Donor : Kind → Scores → Graph → ℕ → ℕ → ℕ → Type 0
 Donor kind scores graph seats g l = Reached graph g l × Wants kind scores seats g l
 
+-- no receiver has one
+abbrev pub NoDonor : Kind → Scores → Graph → ℕ → Type 0
+NoDonor kind scores graph seats = (g l : ℕ) → g < seats → Donor kind scores graph seats g l → ⊥
+
 -- the first receiver that has a donor
 pub record First (kind : Kind) (scores : Scores) (graph : Graph) (seats g : ℕ) : Type 0 where
   pub seat : g < seats
@@ -40,7 +45,7 @@ pub record First (kind : Kind) (scores : Scores) (graph : Graph) (seats g : ℕ)
 
 -- that receiver, or the fact that there is none
 abbrev pub Receives : Kind → Scores → Graph → ℕ → Receiver → Type 0
-Receives kind scores graph seats receiver.Nobody = (g l : ℕ) → g < seats → Donor kind scores graph seats g l → ⊥
+Receives kind scores graph seats receiver.Nobody = NoDonor kind scores graph seats
 Receives kind scores graph seats (receiver.Seat g) = First kind scores graph seats g
 
 -- the first receiver that has a donor, and its lowest one
@@ -52,7 +57,7 @@ pub record FirstPair (kind : Kind) (scores : Scores) (graph : Graph) (seats g l 
 
 -- the first pair, or the fact that there is none
 abbrev pub Firsts : Kind → Scores → Graph → ℕ → Pair → Type 0
-Firsts kind scores graph seats Nobody = (g l : ℕ) → g < seats → Donor kind scores graph seats g l → ⊥
+Firsts kind scores graph seats Nobody = NoDonor kind scores graph seats
 Firsts kind scores graph seats (Between g l) = FirstPair kind scores graph seats g l
 
 -- ---- the moves between the two
@@ -81,3 +86,17 @@ pub record Nearest (kind : Kind) (graph : Graph) (g l : ℕ) (x : ExchangePath) 
   pub fewest : (r : ℕ) → r < x .count → Reach graph r g l → ⊥
   pub counted : length (movesOf x) ≡ x .count
   pub path : (I : Instance) (S : Sheet) → Drawn I S graph → fairness.Path I S g l (movesOf x)
+
+-- ---- the answer
+
+-- an exchange path of a kind: its receiver and donor are the first pair, and it has the fewest moves between the two
+abbrev pub FirstPath : Kind → Scores → Graph → ℕ → ExchangePath → Type 0
+FirstPath kind scores graph seats x =
+    FirstPair kind scores graph seats (x .receiver) (x .donor) × Nearest kind graph (x .receiver) (x .donor) x
+
+-- what the search finds, by the kind of path: one that improves; where there is none, one that ties wrongly; or neither, and so no moves
+abbrev pub Finds : Kind → Scores → Graph → ℕ → ExchangePath → Type 0
+Finds None scores graph seats x =
+    (x .count ≡ 0) × (NoDonor Improving scores graph seats × NoDonor WronglyTied scores graph seats)
+Finds Improving scores graph seats x = FirstPath Improving scores graph seats x
+Finds WronglyTied scores graph seats x = NoDonor Improving scores graph seats × FirstPath WronglyTied scores graph seats x

@@ -5,7 +5,7 @@ ghost use Prim.Native.Nat.{ℕ, _≤_, _<_};
 ghost use Rattle.masks.specs.Sets.{In};
 ghost use Rattle.reach.specs.Graphs.{Reached, Layers, Fewest};
 ghost use Rattle.search.specs.Tests.{testBy, Tested, Bounded, Wants};
-ghost use Rattle.search.specs.Steps.{Receives, Firsts, Gives, GivesBy, Leading, Nearest};
+ghost use Rattle.search.specs.Steps.{Receives, Firsts, Gives, GivesBy, Leading, Nearest, Finds};
 use reach::Graph;
 use sheet::Move;
 
@@ -141,7 +141,7 @@ fn first_receiver(kind: Kind, scores: Scores, graph: Graph, seats: usize) -> Rec
 }
 
 // The first receiver that reaches a donor which is wanted for it, and its lowest such donor.
-pub fn first_pair(kind: Kind, scores: Scores, graph: Graph, seats: usize) -> Pair
+fn first_pair(kind: Kind, scores: Scores, graph: Graph, seats: usize) -> Pair
     requires { ⌜ (seats ≤ 32) × Bounded seats scores ⌝ }
     ensures { λ r. ⌜ Firsts kind scores graph seats r ⌝ }
 {
@@ -199,7 +199,7 @@ fn moves_to(graph: Graph, sets: [u32; 32], donor: usize, count: usize) -> [Move;
 }
 
 // An exchange path from a receiver to a donor that has the fewest moves.
-pub fn path_to(kind: Kind, graph: Graph, receiver: usize, donor: usize) -> ExchangePath
+fn path_to(kind: Kind, graph: Graph, receiver: usize, donor: usize) -> ExchangePath
     requires { ⌜ (receiver < 32) × Reached graph receiver donor ⌝ }
     ensures { λ r. ⌜ Nearest kind graph receiver donor r ⌝ }
 {
@@ -212,4 +212,36 @@ pub fn path_to(kind: Kind, graph: Graph, receiver: usize, donor: usize) -> Excha
         count,
         moves: moves_to(graph, sets, donor, count),
     }
+}
+
+// No exchange path.
+fn no_path() -> ExchangePath
+    ensures { λ r. ⌜ (r .kind ≡ Kind.None) × (r .count ≡ 0) ⌝ }
+{
+    let none = Move {
+        window: 0,
+        giver: 0,
+        taker: 0,
+    };
+    ExchangePath {
+        kind: Kind::None,
+        receiver: 0,
+        donor: 0,
+        count: 0,
+        moves: [none; 31],
+    }
+}
+
+// The first pair that improves and a shortest path between the two; where there is none the same for pairs that tie wrongly; or no path.
+pub fn find(scores: Scores, graph: Graph, seats: usize) -> ExchangePath
+    requires { ⌜ (seats ≤ 32) × Bounded seats scores ⌝ }
+    ensures { λ r. ⌜ Finds (r .kind) scores graph seats r ⌝ }
+{
+    if let Pair::Between { receiver, donor } = first_pair(Kind::Improving, scores, graph, seats) {
+        return path_to(Kind::Improving, graph, receiver, donor);
+    }
+    if let Pair::Between { receiver, donor } = first_pair(Kind::WronglyTied, scores, graph, seats) {
+        return path_to(Kind::WronglyTied, graph, receiver, donor);
+    }
+    no_path()
 }

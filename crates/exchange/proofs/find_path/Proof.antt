@@ -1,75 +1,94 @@
--- `exchange::find_path` meets its contract.
+-- `exchange::find_path` meets its contract. Each turn works out one seat: its height, where it has room, and what it holds.
 use borrow.Author.Needs.{needs}
+use mathlib.Core.Path.{_≡_, refl}
+use mathlib.Core.Logic.{_↔_}
+use Prim.Native.Nat.{ℕ, _-_}
 use native.Mathlib.Omega.{arith}
+use lib.ListN.{length, getD}
+use Rattle.lists.proofs.Arrays.{Filled, filled-first, filled-next}
+use Rattle.masks.specs.Sets.{In}
+use Rattle.sheet.specs.Sheets.{credit, noRow}
+use Rattle.sheet.proofs.Shapes.{credit-small}
+use Rattle.sheet.proofs.Sums.{sum-bound}
+use Rattle.reach.specs.declared.Graph.{Graph}
+use Rattle.reach.specs.Graphs.{Rows}
+use Rattle.reach.proofs.Collect.{rows-end}
 use Rattle.instance.proofs.Told.{told-in, shows-itself}
-use Rattle.search.specs.Tests.{Bounded}
-use Rattle.exchange.proofs.Heights.{bounded}
-use Rattle.exchange.proofs.Finding.{finds-improving, finds-tied, finds-none}
+use Rattle.exchange.proofs.Heights.{Known, scored, bounded}
+use Rattle.exchange.proofs.Drawing.{HasRoom, HoldersOf, held-first, held-next, drawn}
+use Rattle.exchange.proofs.Finding.{finds-right}
 use Rattle.exchange.proofs.find_path.Statement.{statement}
 use Rattle.exchange.proofs.find_path.Tie as tie
 
--- the scores are small
-small : (c : tie.After-scores-of) → Bounded (c .before .args .t .seats) (c .scores-of .result)
-small c =
-    let a = c .before .args in
-    let p = c .before .pre in
-    bounded (a .t) (a .caps) (a .sheet) _ (p .0) (p .1)
-    (c .scores-of .ensures _ _ (a .caps) (told-in (a .t) (a .caps)) (shows-itself (a .t) (a .sheet)))
+abbrev Inv-loop : tie.InvT-loop
+Inv-loop sheet caps seats windows bases weights positions heights₀ rooms₀ holders₀ seat₀ heights rooms holders seat =
+    Known sheet seats windows bases heights₀ seat heights
+    × (Filled (λ k set. (w : ℕ) → In w set ↔ HasRoom sheet caps windows k w) 0 32 seats rooms₀ seat rooms
+    × ((length holders ≡ 24) × HoldersOf sheet windows seat holders))
 
-first-pair-requires : tie.Need-first-pair-requires
-first-pair-requires c κs = (c .before .before .pre .0 .ranged .seats-most, small (c .before))
+abbrev μ-loop : tie.MeasureT-loop
+μ-loop sheet caps seats windows bases weights positions heights₀ rooms₀ holders₀ seat₀ heights rooms holders seat = seats - seat
 
-path-to-requires : tie.Need-path-to-requires
-path-to-requires c κs =
-    let p = c .before .before .before in
-    let f = rw (c .before .receiver .given .1) at (p .first-pair .ensures) in
-    (omega (arith, p .before .before .before .pre .0 .ranged .seats-most, f .seat), f .donor .0)
+loop-holds : tie.Need-loop-holds Inv-loop μ-loop
+loop-holds c =
+    let a = c .before .before .before .args in
+    (filled-first refl (search needs), (filled-first refl (search needs), (refl, held-first (a .t1) _ 24)))
 
-returns : tie.Need-returns
+add-heights : tie.Need-add-heights Inv-loop μ-loop
+add-heights c =
+    let at = c .before .before .before .before in
+    let start = at .before .before .before .before in
+    let a = start .args in
+    let seat = at .loop .seat in
+    let small = credit-small (a .t1) _ (start .good .0) seat in
+    let cells = sum-bound 65535 (a .t .windows) (λ j. credit (a .t1) seat j) (λ j lj. omega (arith, small j)) in
+    let ranged = start .pre .0 .ranged in
+    let base = ranged .bases-most seat (search needs) in
+    omega (arith, cells, base, c .row-total .ensures, ranged .windows-most)
+
+loop-again : tie.Need-loop-again Inv-loop μ-loop
+loop-again c =
+    let total = c .before .before .before in
+    let at = total .before .before .before .before .loop in
+    let a = total .before .before .before .before .before .before .before .before .args in
+    let cells = getD (a .t1 .rows) (at .seat) noRow .cells in
+    let more = c .with-holder .result in (
+      filled-next (at .inv .0) (search needs) (omega (arith, total .row-total .ensures)),
+      (
+        filled-next (at .inv .1 .0) (search needs) (c .before .below .ensures),
+        (
+          search needs,
+          held-next (a .t1) (a .t .windows) (at .seat) (at .holders) more cells (at .inv .1 .1 .1) (λ w. refl) (c .with-holder .ensures),
+        ),
+      ),
+    )
+
+find-requires : tie.Need-find-requires Inv-loop μ-loop
+find-requires c κs =
+    let at = c .before .loop in
+    let start = c .before .before .before .before .before in
+    let a = start .args in
+    let p = start .pre in
+    let scores = scored (a .t1) (a .t2) (a .t) (at .seat) _ (at .heights) (search needs) (at .inv .0) in (
+      p .0 .ranged .seats-most,
+      bounded (a .t) (a .t2) (a .t1) _ (p .0) (p .1) (scores _ _ (told-in (a .t) (a .t2)) (shows-itself (a .t) (a .t1))),
+    )
+
+returns : tie.Need-returns Inv-loop μ-loop
 returns c =
-    let p = c .before .before .before .before in
-    let s = p .before .before in
-    let a = s .before .args in
-    let f = rw (c .before .before .receiver .given .1) at (p .first-pair .ensures) in
-    finds-improving (a .t) (a .caps) (a .sheet) (s .before .pre .0 .ranged) _ _ (s .scores-of .ensures) (p .before .graph-of .ensures)
-    _ _ _ f (c .path-to .ensures)
-
-first-pair-requires-2 : tie.Need-first-pair-requires-2
-first-pair-requires-2 c κs =
-    let s = c .before .before .before .before in
-    (s .before .pre .0 .ranged .seats-most, small s)
-
-path-to-requires-2 : tie.Need-path-to-requires-2
-path-to-requires-2 c κs =
-    let p = c .before .before .before in
-    let start = p .before .before .before .before .before .before in
-    let f = rw (c .before .receiver2 .given .1) at (p .first-pair2 .ensures) in
-    (omega (arith, start .pre .0 .ranged .seats-most, f .seat), f .donor .0)
-
-returns-2 : tie.Need-returns-2
-returns-2 c =
-    let q = c .before .before .before .before in
-    let p = q .before .before .before in
-    let s = p .before .before in
-    let a = s .before .args in
-    let none = rw (q .before .enum-told .given .1) at (p .first-pair .ensures) in
-    let f = rw (c .before .before .receiver2 .given .1) at (q .first-pair2 .ensures) in
-    finds-tied (a .t) (a .caps) (a .sheet) (s .before .pre .0 .ranged) _ _ (s .scores-of .ensures) (p .before .graph-of .ensures)
-    _ _ _ none f (c .path-to2 .ensures)
-
-returns-3 : tie.Need-returns-3
-returns-3 c =
-    let q = c .before .before .before in
-    let p = q .before .before .before in
-    let s = p .before .before in
-    let a = s .before .args in
-    let none = rw (q .before .enum-told .given .1) at (p .first-pair .ensures) in
-    let neither = rw (c .before .enum-told2 .given .1) at (q .first-pair2 .ensures) in
-    finds-none (a .t) (a .caps) (a .sheet) (s .before .pre .0 .ranged) _ _ (s .scores-of .ensures) (p .before .graph-of .ensures)
-    _ (c .no-path .ensures) none neither
+    let at = c .before .before .loop in
+    let start = c .before .before .before .before .before .before in
+    let a = start .args in
+    let scores = scored (a .t1) (a .t2) (a .t) (at .seat) _ (at .heights) (search needs) (at .inv .0) in
+    let e : at .seat ≡ a .t .seats = omega (arith, at .inv .0 .within) in
+    let rooms : Rows (a .t .seats) (HasRoom (a .t1) (a .t2) (a .t .windows)) (at .rooms) = rows-end (at .inv .1 .0) (search needs) in
+    let graph : Graph = record { rooms = at .rooms; holders = at .holders } in
+    let moves = drawn (a .t1) (a .t2) (a .t) graph rooms (rw e at (at .inv .1 .1 .1)) in
+    finds-right (a .t) (a .t2) (a .t1) (start .pre .0 .ranged) _ graph scores moves (c .find .result .kind) _ (c .find .ensures)
 
 pub find-path-spec : {M : Type 1} → statement M
 find-path-spec =
-    tie.close (tie.spec (λ c κs. c .pre .0 .ranged) (λ c κs. c .before .pre .0 .ranged) first-pair-requires (λ c. search needs)
-    path-to-requires returns (λ c. search needs) first-pair-requires-2 (λ c. search needs) path-to-requires-2 returns-2 (λ c. search needs)
-    (λ c κs. search needs) returns-3)
+    tie.close (tie.spec Inv-loop μ-loop loop-holds (λ c. search needs) (λ c. search needs) (λ c. search needs) (λ c. search needs)
+    (λ c κs. search needs) add-heights (λ c. search needs) (λ c. search needs) (λ c. search needs) (λ c. search needs)
+    (λ c κs. search needs) (λ c. search needs) (λ c. search needs) (λ c κs. search needs) (λ c. search needs) (λ c. search needs) loop-again
+    find-requires returns)
