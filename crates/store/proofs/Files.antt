@@ -1,7 +1,7 @@
--- What is stored is the file: contents and bodies by one step for each slot.
+-- What is stored is the file: its contents by one step for each slot, then its bodies.
 -- Assumes nothing.
 use mathlib.Core.Bool.{Bool, true, false}
-use mathlib.Core.List.{List, [], _∷_, _++_, append-assoc}
+use mathlib.Core.List.{List, [], _∷_, _++_}
 use mathlib.Core.Option.{Option, none, some}
 use mathlib.Core.Path.{_≡_, refl, sym, _∙_, ap, ap₂, subst}
 use Prim.Native.Nat.{ℕ, _+_, _*_, _≤_, _<_}
@@ -10,7 +10,6 @@ use native.Mathlib.Omega.{arith}
 use lib.ListN.{length, drop, length-append}
 use Rattle.model.specs.Book.{Grid}
 use Rattle.sheet.specs.Sheets.{gridOf}
-use Rattle.sheet.specs.declared.Sheet.{Sheet}
 use Rattle.dayfile.specs.Layout.{contentsEnd}
 use Rattle.dayfile.specs.File.{Part, bytesOf, contents, bodies, fieldsOf, assemble, flat, flatIf, optPart, optParts, partsOf, fileOf}
 use Rattle.dayfile.specs.Table.{known}
@@ -19,11 +18,11 @@ use Rattle.dayfile.specs.declared.Book as Memory
 use Rattle.dayfile.specs.declared.Day.{Day}
 use Rattle.dayfile.proofs.Tables.{sized-length}
 use Rattle.dayfile.proofs.Fields.{length-bytes}
-use Rattle.dayfile.proofs.Grids.{sized-flat-length}
+use Rattle.dayfile.proofs.Grids.{flat-append, sized-flat-length}
 use Rattle.store.specs.Stores.{Room, Put, sizeIf, fieldsIf, total, count, size, entry, entries, sizes, entriesAt}
-use Rattle.store.specs.Stores.{head, slot, slotsOf, slotsIn, bookFields, optionFields, Of}
+use Rattle.store.specs.Stores.{head, slot, slotsOf, slotsIn, listFields, Of}
 use Rattle.store.specs.declared.contents.Slot.{Slot}
-use Rattle.store.proofs.Storing.{put-none, put-then, put-as, put-end, put-front, room-first, room-next, room-as, grid-if}
+use Rattle.store.proofs.Storing.{Begun, begun-first, begun-room, begun-next, begun-end, put-as, put-end, put-front, room-as, grid-if}
 
 -- ---- one slot: its entry, its body, its count
 
@@ -75,6 +74,11 @@ abbrev parts : List Full → List Part
 parts [] = []
 parts (f ∷ fs) = optPart (f .at .kind) (ifThere (f .at .there) (f .body)) ++ parts fs
 
+-- the fields of each body, none where it is missing
+abbrev runs : List Full → List (List ℕ)
+runs [] = []
+runs (f ∷ fs) = fieldsIf (f .at .there) (f .body) ∷ runs fs
+
 contents-are : (at : ℕ) (fs : List Full) → contents at (parts fs) ≡ entriesAt at (slots fs)
 unfolding contents entriesAt
 contents-are at [] = refl
@@ -88,14 +92,19 @@ count-is [] = refl
 count-is (f ∷ fs) =
     count-opt (f .at .kind) (f .at .there) (f .body) (parts fs) ∙ ap (λ (n : ℕ). sizeIf (f .at .there) 1 + n) (count-is fs)
 
-bodies-long : (fs : List Full) → length (bodies (parts fs)) ≡ sizes (slots fs)
-unfolding total bodies
+bodies-are : (fs : List Full) → bodies (parts fs) ≡ flat (runs fs)
+unfolding bodies flat
+bodies-are [] = refl
+bodies-are (f ∷ fs) =
+    bodies-opt (f .at .kind) (f .at .there) (f .body) (parts fs)
+    ∙ ap (λ (ws : List ℕ). fieldsIf (f .at .there) (f .body) ++ ws) (bodies-are fs)
+
+bodies-long : (fs : List Full) → length (flat (runs fs)) ≡ sizes (slots fs)
+unfolding total flat
 bodies-long [] = refl
 bodies-long (f ∷ fs) =
     let e = length-opt (f .at .there) (f .body) (f .at .fields) (f .long) in
-    let r = bodies-long fs in
-    let t : List ℕ = fieldsIf (f .at .there) (f .body) in
-    ap length (bodies-opt (f .at .kind) (f .at .there) (f .body) (parts fs)) ∙ length-append t (bodies (parts fs)) ∙ omega arith
+    let r = bodies-long fs in length-append (fieldsIf (f .at .there) (f .body)) (flat (runs fs)) ∙ omega arith
 
 pub entries-long : (ss : List Slot) (at : ℕ) → length (entriesAt at ss) ≡ 3 * entries ss
 unfolding entriesAt total
@@ -110,12 +119,13 @@ unfolding head
 head-long ss = let e = entries-long ss (contentsEnd (entries ss)) in omega arith
 
 -- the number of entries, the entries and the bodies are the file's fields
-fields-are : (fs : List Full) → fieldsOf (length (parts fs)) (parts fs) ≡ head (slots fs) ++ bodies (parts fs)
+fields-are : (fs : List Full) → fieldsOf (length (parts fs)) (parts fs) ≡ head (slots fs) ++ flat (runs fs)
 unfolding head fieldsOf
 fields-are fs =
     let ps : List Part = parts fs in
     ap (λ (k : ℕ). k ∷ contents (contentsEnd k) ps ++ bodies ps) (count-is fs)
     ∙ ap (λ (ws : List ℕ). entries (slots fs) ∷ ws ++ bodies ps) (contents-are (contentsEnd (entries (slots fs))) fs)
+    ∙ ap (λ (ws : List ℕ). head (slots fs) ++ ws) (bodies-are fs)
 
 -- the slots of a book: how many, and that their sizes are small
 size-most : (t : Bool) (n : ℕ) → sizeIf t n ≤ n
@@ -176,83 +186,66 @@ module _ (d : Day) where
   pub parts-count : length (partsIn d) ≡ entries (slotsIn d)
   parts-count = ap length parts-are ∙ count-is all ∙ ap entries slots-are
 
-  -- the bodies, in the order in which they are stored
-  bodies-are : bodies (partsIn d) ≡ bookFields (d .book) (d .caps) ++ optionFields d
-  unfolding partsIn partsOf bodies bookIn bookFields
-  bodies-are =
-      let x : List ℕ = sized n (d .book .classes) in
-      let y : List ℕ = sized m (d .book .supplies) in
-      let z : List ℕ = cells (gridOf (d .caps)) in
-      let o : List ℕ = optionFields d in
-      ap (λ (ws : List ℕ). x ++ ws) (sym (append-assoc y z o)) ∙ sym (append-assoc x (y ++ z) o)
+  -- what is stored, run by run: first the contents, then the bodies; a further kind is one run more behind the sheet's
+  abbrev stored : List (List ℕ)
+  stored =
+      head (slotsIn d)
+      ∷ listFields (d .book)
+      ∷ cells (gridOf (d .caps))
+      ∷ fieldsIf (d .«has_sheet») (cells (gridOf (d .sheet)))
+      ∷ []
 
-  pub options-are : optionFields d ≡ fieldsIf (d .«has_sheet») (flat (sizedGrid n m (gridOf (d .sheet)))) ++ []
-  unfolding optParts bodies
-  options-are =
-      ap (λ (o : Option (List ℕ)). bodies (optPart 4 o ++ [])) (sheet-flat (d .«has_sheet»))
-      ∙ bodies-opt 4 (d .«has_sheet») (cells (gridOf (d .sheet))) []
+  -- the first two bodies are one run
+  stored-are : head (slots all) ++ flat (runs all) ≡ flat stored
+  unfolding flat
+  stored-are =
+      ap₂ (λ (ss : List Slot) (ws : List ℕ). head ss ++ ws) slots-are
+      (flat-append (sized n (d .book .classes) ∷ sized m (d .book .supplies) ∷ []) (drop 2 stored))
 
-  -- the file's fields: the contents, then the bodies
-  abbrev fields : List ℕ
-  fields = head (slotsIn d) ++ (bookFields (d .book) (d .caps) ++ optionFields d)
+  fields-stored : fieldsOf (length (partsIn d)) (partsIn d) ≡ head (slots all) ++ flat (runs all)
+  fields-stored = ap (λ (ps : List Part). fieldsOf (length ps) ps) parts-are ∙ fields-are all
 
-  file-is : fileIn d ≡ bytesOf fields
+  file-is : fileIn d ≡ bytesOf (flat stored)
   unfolding fileIn fileOf assemble partsIn
-  file-is =
-      let p = parts-are in
-      ap (λ (ps : List Part). bytesOf (fieldsOf (length ps) ps)) p
-      ∙ ap bytesOf (fields-are all)
-      ∙ ap (λ (ps : List Part). bytesOf (head (slots all) ++ bodies ps)) (sym p)
-      ∙ ap (λ (ss : List Slot). bytesOf (head ss ++ bodies (partsIn d))) slots-are
-      ∙ ap (λ (ws : List ℕ). bytesOf (head (slotsIn d) ++ ws)) bodies-are
+  file-is = ap bytesOf (fields-stored ∙ stored-are)
 
-  fields-long : length (fileIn d) ≡ 2 * length fields
-  fields-long = ap length file-is ∙ length-bytes fields
+  fields-long : length (fileIn d) ≡ 2 * length (flat stored)
+  fields-long = ap length file-is ∙ length-bytes (flat stored)
 
   file-long : length (fileIn d) ≡ contentsEnd (entries (slotsIn d)) + 2 * sizes (slotsIn d)
   file-long =
-      let h = head-long (slotsIn d) in
-      let b : length (bookFields (d .book) (d .caps) ++ optionFields d) ≡ sizes (slotsIn d) =
-      ap length (sym bodies-are) ∙ ap (λ (ps : List Part). length (bodies ps)) parts-are ∙ bodies-long all ∙ ap sizes slots-are in
-      let a = length-append (head (slotsIn d)) (bookFields (d .book) (d .caps) ++ optionFields d) in fields-long ∙ omega arith
+      let h = head-long (slots all) in
+      let b = bodies-long all in
+      let a = length-append (head (slots all)) (flat (runs all)) in
+      let e = ap length stored-are in
+      fields-long ∙ omega arith ∙ ap (λ (ss : List Slot). contentsEnd (entries ss) + 2 * sizes ss) slots-are
 
--- ---- the bodies that are always there
+-- ---- a day, stored run by run
 
-module _ (b : Memory.Book) (caps : Sheet) where
-  abbrev classes : List ℕ
-  classes = sized (b .seats) (b .classes)
+module _ (d : Day) (l : List ℕ) (long : length (fileIn d) ≤ length l) where
+  first : Begun l 0 (flat (stored d)) 0 (stored d) l
+  first = let f = fields-long d in begun-first (stored d) (record { fits = omega arith })
 
-  abbrev supplies : List ℕ
-  supplies = sized (b .windows) (b .supplies)
+  -- the contents
+  module _ {ss : List Slot} (e : ss ≡ slotsIn d) where
+    pub contents-room : Room l 0 (head ss)
+    contents-room = room-as (ap head (sym e)) (begun-room first)
 
-  abbrev grid : List ℕ
-  grid = flat (sizedGrid (b .seats) (b .windows) (gridOf caps))
+    pub contents-put : {p : ℕ} {b : List ℕ} → Put l 0 (head ss) p b → Begun l 0 (flat (stored d)) p (drop 1 (stored d)) b
+    contents-put c = begun-next first (put-as (ap head e) c)
 
-  module _ {l : List ℕ} {at : ℕ} (r : Room l at (bookFields b caps)) where
-    pub classes-room : Room l at (sized (b .seats) (b .classes))
-    unfolding bookFields
-    classes-room = room-first classes (supplies ++ grid) r
+  -- all of it is the file at the buffer's front
+  pub file-front : {r : ℕ} {b : List ℕ} → Begun l 0 (flat (stored d)) r [] b → (r ≡ length (fileIn d)) × (b ≡ front (fileIn d) l)
+  unfolding front
+  file-front s =
+      let all = begun-end s in
+      let n = fields-long d in
+      let z = put-end all in (
+        omega arith,
+        put-front all (omega arith) ∙ ap (λ (f : List ℕ). f ++ drop (length f) l) (sym (file-is d)),
+      )
 
-    module _ {p : ℕ} {x : List ℕ} (h : Put l at (sized (b .seats) (b .classes)) p x) where
-      behind-classes : Room x p (supplies ++ grid)
-      unfolding bookFields
-      behind-classes = room-next classes (supplies ++ grid) r h
-
-      pub supplies-room : Room x p (sized (b .windows) (b .supplies))
-      supplies-room = room-first supplies grid behind-classes
-
-      pub caps-room : {q : ℕ} {y : List ℕ} → Put x p (sized (b .windows) (b .supplies)) q y
-          → Room y q (flat (sizedGrid (b .seats) (b .windows) (gridOf caps)))
-      caps-room k = room-next supplies grid behind-classes k
-
-  pub book-put : {l x y z : List ℕ} {at p q r : ℕ} → Put l at (sized (b .seats) (b .classes)) p x
-      → Put x p (sized (b .windows) (b .supplies)) q y → Put y q (flat (sizedGrid (b .seats) (b .windows) (gridOf caps))) r z
-      → Put l at (bookFields b caps) r z
-  unfolding bookFields
-  book-put h k g = put-then h (put-then k g)
-
--- ---- the bodies that may be missing: a further kind is one step more
-
+-- the sheet, by the number of rows that are there
 module _ (d : Day) {rows : ℕ} (e : rows ≡ sizeIf (d .«has_sheet») (d .book .seats)) where
   sheet-rows : flat (sizedGrid rows (d .book .windows) (gridOf (d .sheet)))
       ≡ fieldsIf (d .«has_sheet») (flat (sizedGrid (d .book .seats) (d .book .windows) (gridOf (d .sheet))))
@@ -260,53 +253,14 @@ module _ (d : Day) {rows : ℕ} (e : rows ≡ sizeIf (d .«has_sheet») (d .book
       ap (λ (k : ℕ). flat (sizedGrid k (d .book .windows) (gridOf (d .sheet)))) e
       ∙ grid-if (d .«has_sheet») (d .book .seats) (d .book .windows) (gridOf (d .sheet))
 
-  pub sheet-room : {l : List ℕ} {at : ℕ} → Room l at (optionFields d)
-      → Room l at (flat (sizedGrid rows (d .book .windows) (gridOf (d .sheet))))
-  sheet-room r =
-      room-as (sym sheet-rows)
-      (room-first (fieldsIf (d .«has_sheet») (flat (sizedGrid (d .book .seats) (d .book .windows) (gridOf (d .sheet))))) []
-      (room-as (options-are d) r))
+  pub sheet-room : {b : List ℕ} {p : ℕ}
+      → Room b p (fieldsIf (d .«has_sheet») (flat (sizedGrid (d .book .seats) (d .book .windows) (gridOf (d .sheet)))))
+      → Room b p (flat (sizedGrid rows (d .book .windows) (gridOf (d .sheet))))
+  sheet-room r = room-as (sym sheet-rows) r
 
-  pub options-put : {l x : List ℕ} {at p : ℕ} → Put l at (flat (sizedGrid rows (d .book .windows) (gridOf (d .sheet)))) p x
-      → Put l at (optionFields d) p x
-  options-put h = put-as (sym (options-are d)) (put-then (put-as sheet-rows h) (put-none _ _))
-
--- ---- a day, stored: first its contents, then its book, then what may be missing
-
-module _ (d : Day) (l : List ℕ) {ss : List Slot} (e : ss ≡ slotsIn d) (long : length (fileIn d) ≤ length l) where
-  abbrev book : List ℕ
-  book = bookFields (d .book) (d .caps)
-
-  room : Room l 0 (head (slotsIn d) ++ (bookFields (d .book) (d .caps) ++ optionFields d))
-  room = let f = fields-long d in record { fits = omega arith }
-
-  -- room for the contents
-  pub contents-room : Room l 0 (head ss)
-  contents-room = room-as (ap head (sym e)) (room-first (head (slotsIn d)) (book ++ optionFields d) room)
-
-  module _ {p : ℕ} {b : List ℕ} (c : Put l 0 (head ss) p b) where
-    behind : Room b p (bookFields (d .book) (d .caps) ++ optionFields d)
-    behind = room-next (head (slotsIn d)) (book ++ optionFields d) room (put-as (ap head e) c)
-
-    -- room for the book
-    pub book-room : Room b p (bookFields (d .book) (d .caps))
-    book-room = room-first book (optionFields d) behind
-
-    module _ {q : ℕ} {x : List ℕ} (k : Put b p (bookFields (d .book) (d .caps)) q x) where
-      -- room for what may be missing
-      pub options-room : Room x q (optionFields d)
-      options-room = room-next book (optionFields d) behind k
-
-      -- the whole is the file at the buffer's front
-      pub file-front : {r : ℕ} {y : List ℕ} → Put x q (optionFields d) r y → (r ≡ length (fileIn d)) × (y ≡ front (fileIn d) l)
-      unfolding front
-      file-front {r} {y} o =
-          let all = put-then (put-as (ap head e) c) (put-then k o) in
-          let n = fields-long d in
-          let z = put-end all in (
-            omega arith,
-            put-front all (omega arith) ∙ ap (λ (f : List ℕ). f ++ drop (length f) l) (sym (file-is d)),
-          )
+  pub sheet-put : {b c : List ℕ} {p r : ℕ} → Put b p (flat (sizedGrid rows (d .book .windows) (gridOf (d .sheet)))) r c
+      → Put b p (fieldsIf (d .«has_sheet») (flat (sizedGrid (d .book .seats) (d .book .windows) (gridOf (d .sheet))))) r c
+  sheet-put h = put-as sheet-rows h
 
 -- the length by the book alone
 pub length-told : {b : Memory.Book} {t : Bool} {ss : List Slot} {i j : ℕ} (d : Day) → ss ≡ slotsOf b t → i ≡ entries ss → j ≡ sizes ss

@@ -1,7 +1,7 @@
 -- Fields stored into a buffer: one run of them after another, one more of a list, one more row of a grid.
 -- Assumes nothing.
 use mathlib.Core.Bool.{Bool, true, false}
-use mathlib.Core.List.{List, [], _∷_, _++_}
+use mathlib.Core.List.{List, [], _∷_, _++_, append-assoc, append-nil}
 use mathlib.Core.Path.{_≡_, refl, sym, _∙_, ap}
 use Prim.Native.Nat.{ℕ, _+_, _*_, _≤_, _<_}
 use native.Mathlib.Nat.{mul-le-mul-right}
@@ -59,6 +59,42 @@ room-next ws vs r k =
 -- the same fields
 pub room-as : {l : List ℕ} {at : ℕ} {ws vs : List ℕ} → ws ≡ vs → Room l at ws → Room l at vs
 room-as e r = let n = ap length e in record { fits = omega (arith, r .fits) }
+
+-- ---- several runs, one after another
+
+-- of all these fields, those before the runs that are left are stored, and the next goes to p
+pub record Begun (l : List ℕ) (at : ℕ) (all : List ℕ) (p : ℕ) (left : List (List ℕ)) (b : List ℕ) : Type 0 where
+  pub room : Room l at all
+  pub fields : List ℕ
+  pub put : Put l at fields p b
+  pub rest : fields ++ flat left ≡ all
+
+pub begun-first : {l : List ℕ} {at : ℕ} (runs : List (List ℕ)) → Room l at (flat runs) → Begun l at (flat runs) at runs l
+begun-first {l} {at} runs r = record { room = r; fields = []; put = put-none l at; rest = refl }
+
+module _ {l : List ℕ} {at : ℕ} {all : List ℕ} where
+  begun-left : {p : ℕ} {b : List ℕ} {left : List (List ℕ)} → Begun l at all p left b → Room b p (flat left)
+  begun-left {left = left} s = room-next (s .fields) (flat left) (room-as (sym (s .rest)) (s .room)) (s .put)
+
+  -- room for the next run
+  pub begun-room : {p : ℕ} {b ws : List ℕ} {left : List (List ℕ)} → Begun l at all p (ws ∷ left) b → Room b p ws
+  unfolding flat
+  begun-room {ws = ws} {left = left} s = room-first ws (flat left) (begun-left s)
+
+  pub begun-next : {p r : ℕ} {b d ws : List ℕ} {left : List (List ℕ)} → Begun l at all p (ws ∷ left) b → Put b p ws r d
+      → Begun l at all r left d
+  unfolding flat
+  begun-next {ws = ws} {left = left} s k =
+      record {
+        room = s .room;
+        fields = s .fields ++ ws;
+        put = put-then (s .put) k;
+        rest = append-assoc (s .fields) ws (flat left) ∙ s .rest;
+      }
+
+  pub begun-end : {p : ℕ} {b : List ℕ} → Begun l at all p [] b → Put l at all p b
+  unfolding flat
+  begun-end s = put-as (sym (append-nil (s .fields)) ∙ s .rest) (s .put)
 
 -- ---- a list, number by number
 

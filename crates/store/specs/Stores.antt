@@ -5,11 +5,9 @@ use mathlib.Core.Path.{_≡_}
 use Prim.Native.Nat.{ℕ, _+_, _*_, _≤_}
 use lib.ListN.{length}
 use Rattle.lists.specs.Buffers.{Stored}
-use Rattle.sheet.specs.Sheets.{gridOf}
-use Rattle.sheet.specs.declared.Sheet.{Sheet}
 use Rattle.dayfile.specs.Layout.{contentsEnd}
-use Rattle.dayfile.specs.File.{bytesOf, bodies, flat, optParts}
-use Rattle.dayfile.specs.Memory.{sized, sizedGrid, daySheet}
+use Rattle.dayfile.specs.File.{bytesOf, flat}
+use Rattle.dayfile.specs.Memory.{sized}
 use Rattle.dayfile.specs.declared.Book as Memory
 use Rattle.dayfile.specs.declared.Day.{Day}
 use Rattle.store.specs.declared.contents.Slot.{Slot}
@@ -82,13 +80,9 @@ slotsOf b hasSheet =
 abbrev pub slotsIn : Day → List Slot
 slotsIn d = slotsOf (d .book) (d .«has_sheet»)
 
--- the bodies that are always there, and those that may be missing
-unfoldable pub bookFields : Memory.Book → Sheet → List ℕ
-bookFields b caps =
-    sized (b .seats) (b .classes) ++ (sized (b .windows) (b .supplies) ++ flat (sizedGrid (b .seats) (b .windows) (gridOf caps)))
-
-abbrev pub optionFields : Day → List ℕ
-optionFields d = bodies (optParts (daySheet d))
+-- the bodies that are plain lists, one after another: the classes and the supplies
+abbrev pub listFields : Memory.Book → List ℕ
+listFields b = flat (sized (b .seats) (b .classes) ∷ sized (b .windows) (b .supplies) ∷ [])
 
 -- a day of this book, with or without a sheet
 pub record Of (b : Memory.Book) (hasSheet : Bool) (d : Day) : Type 0 where

@@ -1,18 +1,19 @@
-// The file of a day in memory, stored at the front of a buffer: its contents, then its bodies, by one step for each kind.
+// The file of a day in memory, stored at the front of a buffer: its contents, then its bodies in the order of their kinds.
 ghost use mathlib.Core.Path.{_≡_};
 ghost use Prim.Native.Nat.{_≤_};
 ghost use lib.ListN.{length};
 ghost use Rattle.dayfile.specs.Memory.{fileIn, front};
 ghost use Rattle.dayfile.specs.declared.Day.{Day};
 ghost use Rattle.store.specs.Stores.{Of};
-use bodies::put_book;
-use bodies::put_options;
+use bodies::put_lists;
 use contents::count_entries;
 use contents::count_fields;
 use contents::put_contents;
 use contents::slots_of;
 use dayfile::Book;
 use dayfile::Day;
+use numbers::put_rows;
+use numbers::size_if;
 
 pub mod bodies;
 pub mod contents;
@@ -27,13 +28,16 @@ pub fn file_length(book: Book, has_sheet: bool) -> usize
     2 + 6 * count_entries(slots) + 2 * count_fields(slots)
 }
 
-// The file at the front of a buffer that is long enough.
+// The file at the front of a buffer that is long enough. A sheet that is missing has no rows. A further kind is one more put behind it.
 pub fn put_file(out: &mut [u8], day: Day) -> usize
     requires { ⌜ (day .book .seats ≤ 32) × (day .book .windows ≤ 24) × (length (fileIn day) ≤ length (now out)) ⌝ }
     ensures length { λ r. ⌜ r ≡ length (fileIn day) ⌝ }
     ensures file { λ r. ⌜ now (out .exit) ≡ front (fileIn day) (now (out .entry)) ⌝ }
 {
-    let p = put_contents(out, slots_of(day.book, day.has_sheet));
-    let p = put_book(out, p, day.book, day.caps);
-    put_options(out, p, day)
+    let book = day.book;
+    let rows = size_if(day.has_sheet, book.seats);
+    let p = put_contents(out, slots_of(book, day.has_sheet));
+    let p = put_lists(out, p, book);
+    let p = put_rows(out, p, day.caps, book.seats, book.windows);
+    put_rows(out, p, day.sheet, rows, book.windows)
 }
