@@ -7,6 +7,7 @@ ghost use Rattle.dayfile.specs.Memory.{bookIn};
 ghost use Rattle.planner.specs.Planning.{Plans};
 use dayfile::Book;
 use dayfile::Check;
+use dayfile::Day;
 use dayfile::Written;
 use sheet::Caps;
 use sheet::Sheet;
@@ -28,8 +29,9 @@ pub fn plan(file: &[u8], out: &mut [u8]) -> Written
     if let Check::Refused { number, at } = check {
         return Written::Refused { number, at };
     }
-    let mut day = reading.day;
+    let day = reading.day;
     let book = day.book;
+    let caps = day.caps;
     let need = store::file_length(book, true);
     if out.len() < need {
         return Written::Refused {
@@ -37,8 +39,13 @@ pub fn plan(file: &[u8], out: &mut [u8]) -> Written
             at: need,
         };
     }
-    day.has_sheet = true;
-    day.sheet = planned_sheet(book, day.caps.to_grid());
-    let length = store::put_file(out, day);
+    let sheet = planned_sheet(book, caps.to_grid());
+    let planned = Day {
+        book,
+        caps,
+        has_sheet: true,
+        sheet,
+    };
+    let length = store::put_file(out, planned);
     Written::Whole { length }
 }
