@@ -7,7 +7,6 @@ ghost use Rattle.dayfile.specs.Memory.{bookIn};
 ghost use Rattle.planner.specs.Planning.{Plans};
 use dayfile::Book;
 use dayfile::Check;
-use dayfile::Day;
 use dayfile::Written;
 use sheet::Caps;
 use sheet::Sheet;
@@ -40,12 +39,6 @@ pub fn plan(file: &[u8], out: &mut [u8]) -> Written
         };
     }
     let sheet = planned_sheet(book, caps.to_grid());
-    let planned = Day {
-        book,
-        caps,
-        has_sheet: true,
-        sheet,
-    };
-    let length = store::put_file(out, planned);
+    let length = store::put_file(out, book, caps, true, sheet);
     Written::Whole { length }
 }

@@ -5,6 +5,7 @@ use mathlib.Core.Path.{_≡_}
 use Prim.Native.Nat.{ℕ, _+_, _*_, _≤_}
 use lib.ListN.{length}
 use Rattle.lists.specs.Buffers.{Stored}
+use Rattle.sheet.specs.declared.Sheet.{Sheet}
 use Rattle.dayfile.specs.Layout.{contentsEnd}
 use Rattle.dayfile.specs.File.{bytesOf, flat}
 use Rattle.dayfile.specs.Memory.{sized}
@@ -83,6 +84,10 @@ slotsIn d = slotsOf (d .book) (d .«has_sheet»)
 -- the bodies that are plain lists, one after another: the classes and the supplies
 abbrev pub listFields : Memory.Book → List ℕ
 listFields b = flat (sized (b .seats) (b .classes) ∷ sized (b .windows) (b .supplies) ∷ [])
+
+-- a day of these parts
+abbrev pub dayWith : Memory.Book → Sheet → Bool → Sheet → Day
+dayWith b caps hasSheet sheet = record { book = b; caps = caps; «has_sheet» = hasSheet; sheet = sheet }
 
 -- a day of this book, with or without a sheet
 pub record Of (b : Memory.Book) (hasSheet : Bool) (d : Day) : Type 0 where

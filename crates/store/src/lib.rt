@@ -4,14 +4,14 @@ ghost use Prim.Native.Nat.{_≤_};
 ghost use lib.ListN.{length};
 ghost use Rattle.dayfile.specs.Memory.{fileIn, front};
 ghost use Rattle.dayfile.specs.declared.Day.{Day};
-ghost use Rattle.store.specs.Stores.{Of};
+ghost use Rattle.store.specs.Stores.{Of, dayWith};
 use bodies::put_lists;
 use contents::count_entries;
 use contents::count_fields;
 use contents::put_contents;
 use contents::slots_of;
 use dayfile::Book;
-use dayfile::Day;
+use sheet::Sheet;
 use numbers::put_rows;
 use numbers::size_if;
 
@@ -29,15 +29,16 @@ pub fn file_length(book: Book, has_sheet: bool) -> usize
 }
 
 // The file at the front of a buffer that is long enough. A sheet that is missing has no rows. A further kind is one more put behind it.
-pub fn put_file(out: &mut [u8], day: Day) -> usize
-    requires { ⌜ (day .book .seats ≤ 32) × (day .book .windows ≤ 24) × (length (fileIn day) ≤ length (now out)) ⌝ }
-    ensures length { λ r. ⌜ r ≡ length (fileIn day) ⌝ }
-    ensures file { λ r. ⌜ now (out .exit) ≡ front (fileIn day) (now (out .entry)) ⌝ }
+// The day comes in its parts: whole, its two grids would be copied out of it once more.
+pub fn put_file(out: &mut [u8], book: Book, caps: Sheet, has_sheet: bool, sheet: Sheet) -> usize
+    requires { ⌜ (book .seats ≤ 32) × (book .windows ≤ 24) ⌝ }
+    requires { ⌜ length (fileIn (dayWith book caps «has_sheet» sheet)) ≤ length (now out) ⌝ }
+    ensures length { λ r. ⌜ r ≡ length (fileIn (dayWith book caps «has_sheet» sheet)) ⌝ }
+    ensures file { λ r. ⌜ now (out .exit) ≡ front (fileIn (dayWith book caps «has_sheet» sheet)) (now (out .entry)) ⌝ }
 {
-    let book = day.book;
-    let rows = size_if(day.has_sheet, book.seats);
-    let p = put_contents(out, slots_of(book, day.has_sheet));
+    let rows = size_if(has_sheet, book.seats);
+    let p = put_contents(out, slots_of(book, has_sheet));
     let p = put_lists(out, p, book);
-    let p = put_rows(out, p, day.caps, book.seats, book.windows);
-    put_rows(out, p, day.sheet, rows, book.windows)
+    let p = put_rows(out, p, caps, book.seats, book.windows);
+    put_rows(out, p, sheet, rows, book.windows)
 }

@@ -20,6 +20,6 @@ pub fn write(out: &mut [u8], day: Day) -> Written
     if out.len() < n {
         return Written::Refused { number: 16, at: n };
     }
-    put_file(out, day);
+    put_file(out, day.book, day.caps, day.has_sheet, day.sheet);
     Written::Whole { length: n }
 }

@@ -67,7 +67,7 @@ put-file-requires c κs =
     let d = read .result .day in
     let size = sized d (read-fits _ _ (read .ensures) (free k)) in
     let long = planned-size d (c .before .planned-sheet .result) ∙ sym (needed n) in
-    (size .0, size .1, le-trans (le-of-eq long) (c .before .before .before .if1 .left))
+    (size, le-trans (le-of-eq long) (c .before .before .before .if1 .left))
 
 returns-3 : tie.Need-returns-3
 returns-3 c =

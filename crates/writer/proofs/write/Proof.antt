@@ -31,7 +31,7 @@ put-file-requires c κs =
     let k = t .before .before in
     let d = k .before .before .args .day in
     let e = l .file-length .ensures d (record { book-is = refl; sheet-is = refl }) in
-    let p = lines-pass d (passes (k .check-day .ensures) (t .enum-told .given .1)) in (p .0, p .1, omega arith)
+    let p = lines-pass d (passes (k .check-day .ensures) (t .enum-told .given .1)) in ((p .0, p .1), omega arith)
 
 returns-3 : tie.Need-returns-3
 returns-3 c =
