@@ -30,6 +30,7 @@ pub fn plan(file: &[u8], out: &mut [u8]) -> Written
     }
     let day = reading.day;
     let book = day.book;
+    let caps = day.caps;
     let need = store::file_length(book, true);
     if out.len() < need {
         return Written::Refused {
@@ -37,7 +38,7 @@ pub fn plan(file: &[u8], out: &mut [u8]) -> Written
             at: need,
         };
     }
-    let sheet = planned_sheet(book, day.caps.to_grid());
-    let length = store::put_file(out, book, day.caps, true, sheet);
+    let sheet = planned_sheet(book, caps.to_grid());
+    let length = store::put_file(out, book, caps, true, sheet);
     Written::Whole { length }
 }
