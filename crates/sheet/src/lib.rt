@@ -71,16 +71,6 @@ impl Sheet {
         row.cells[window]
     }
 
-    // A seat's total.
-    pub fn total(self, seat: usize, windows: usize) -> u32
-        requires { ⌜ (seat < 32) × (windows ≤ 24) ⌝ }
-        ensures { λ r. ⌜ r ≡ sum windows (λ j. credit self seat j) ⌝ }
-    {
-        let row = self.rows[seat];
-        let cells = row.cells;
-        row_total(cells, windows)
-    }
-
     // Each window's cells together.
     pub fn placed(self, seats: usize, windows: usize) -> [u32; 24]
         requires { ⌜ (seats ≤ 32) × (windows ≤ 24) ⌝ }
