@@ -28,9 +28,7 @@ pub fn plan(file: &[u8], out: &mut [u8]) -> Written
     if let Check::Refused { number, at } = check {
         return Written::Refused { number, at };
     }
-    let day = reading.day;
-    let book = day.book;
-    let caps = day.caps;
+    let book = reading.day.book;
     let need = store::file_length(book, true);
     if out.len() < need {
         return Written::Refused {
@@ -38,7 +36,7 @@ pub fn plan(file: &[u8], out: &mut [u8]) -> Written
             at: need,
         };
     }
-    let sheet = planned_sheet(book, caps.to_grid());
-    let length = store::put_file(out, book, caps, true, sheet);
+    let sheet = planned_sheet(book, reading.day.caps.to_grid());
+    let length = store::put_file(out, book, reading.day.caps, true, sheet);
     Written::Whole { length }
 }

@@ -30,40 +30,40 @@ returns : tie.Need-returns
 returns c = plan-refused _ _ _ _ (read-refused _ _ (c .before .before .before .read .ensures) (c .before .check .given .1))
 
 -- no line of the reader's holds
-free : (c : tie.After-caps) → let start = c .before .before .before .before .before .before .before .before in
+free : (c : tie.After-book) → let start = c .before .before .before .before .before .before in
     firstOf (readLines (now (start .args .file))) ≡ none
-free c = read-sound _ _ (c .before .before .before .before .before .read .ensures) (c .before .before .before .enum-told .given .1)
+free c = read-sound _ _ (c .before .before .before .read .ensures) (c .before .enum-told .given .1)
 
 file-length-requires : tie.Need-file-length-requires
 file-length-requires c κs =
-    let d = c .before .before .before .before .before .read .result .day in
-    sized d (read-fits _ _ (c .before .before .before .before .before .read .ensures) (free c))
+    let d = c .before .before .before .read .result .day in
+    sized d (read-fits _ _ (c .before .before .before .read .ensures) (free c))
 
 -- how long the planned file is
 needed : (c : tie.After-file-length) →
-    let d = c .before .before .before .before .before .before .read .result .day in
+    let d = c .before .before .before .before .read .result .day in
     c .file-length .result ≡ plannedLength (dayBook d)
 needed c =
-    let d = c .before .before .before .before .before .before .read .result .day in
+    let d = c .before .before .before .before .read .result .day in
     c .file-length .ensures _ (record { book-is = refl; sheet-is = refl }) ∙ planned-size d (d .sheet)
 
 returns-2 : tie.Need-returns-2
 returns-2 c =
     let n = c .before in
     let k = n .before in
-    plan-short _ _ _ (k .before .before .before .before .before .read .ensures) (free k) _ (needed n) (c .if1 .taken)
+    plan-short _ _ _ (k .before .before .before .read .ensures) (free k) _ (needed n) (c .if1 .taken)
 
 planned-sheet-requires : tie.Need-planned-sheet-requires
 planned-sheet-requires c κs =
     let k = c .before .before .before in
-    let read = k .before .before .before .before .before .read in
+    let read = k .before .before .before .read in
     subst (λ (g : Grid). Fit (bookIn (read .result .day .book) g)) (sym (c .to-grid .ensures)) (read-fits _ _ (read .ensures) (free k))
 
 put-file-requires : tie.Need-put-file-requires
 put-file-requires c κs =
     let n = c .before .before .before .before in
     let k = n .before in
-    let read = k .before .before .before .before .before .read in
+    let read = k .before .before .before .read in
     let d = read .result .day in
     let size = sized d (read-fits _ _ (read .ensures) (free k)) in
     let long = planned-size d (c .before .planned-sheet .result) ∙ sym (needed n) in
@@ -75,7 +75,7 @@ returns-3 c =
     let sheet = put .before .before in
     let n = sheet .before .before .before in
     let k = n .before in
-    let read = k .before .before .before .before .before .read in
+    let read = k .before .before .before .read in
     let d = read .result .day in
     let planned = sheet .planned-sheet .result in
     let settled = subst (λ (g : Grid). Settled (instanceOf (bookIn (d .book) g)) (credit planned)) (sheet .before .to-grid .ensures)
