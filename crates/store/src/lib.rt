@@ -11,9 +11,9 @@ use contents::count_fields;
 use contents::put_contents;
 use contents::slots_of;
 use dayfile::Book;
-use sheet::Sheet;
 use numbers::put_rows;
 use numbers::size_if;
+use sheet::Sheet;
 
 pub mod bodies;
 pub mod contents;
