@@ -1,4 +1,4 @@
--- `marker::lines::cell_above` meets its contract: line 14 by cases on the entry of kind 4.
+-- `lawful::cell_above` meets its contract: line 14 by cases on the entry of kind 4.
 use borrow.Author.Needs.{needs}
 use mathlib.Core.Path.{_∙_}
 use native.Mathlib.Omega.{arith}

@@ -1,4 +1,4 @@
--- `marker::lines::check_file` meets its contract: the lines without the buffer's, and that of the buffer.
+-- `lawful::check_file` meets its contract: the lines without the buffer's, and that of the buffer.
 use mathlib.Core.Path.{sym, _∙_}
 use borrow.Author.Needs.{needs}
 use Rattle.dayfile.specs.Table.{sheetLines, markLines}

@@ -1,4 +1,4 @@
--- `marker::lines::check_lawful` meets its contract: the reader's lines, then a look at the sheet in memory, then its lines.
+-- `lawful::check_lawful` meets its contract: the reader's lines, then a look at the sheet in memory, then its lines.
 use mathlib.Core.Path.{sym, _∙_}
 use borrow.Author.Needs.{needs}
 use Rattle.dayfile.specs.Table.{readLines, sheetLines}

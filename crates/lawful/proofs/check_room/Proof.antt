@@ -1,4 +1,4 @@
--- `marker::lines::check_room` meets its contract: line 16 by cases.
+-- `lawful::check_room` meets its contract: line 16 by cases.
 use mathlib.Core.Path.{refl}
 use borrow.Author.Tests.{lt-ltb, le-ltb}
 use Rattle.dayfile.specs.Table.{bufferLines, line16}

@@ -1,4 +1,4 @@
--- `marker::lines::check_sheet` meets its contract: the three lines as they were looked up.
+-- `lawful::check_sheet` meets its contract: the three lines as they were looked up.
 use borrow.Author.Needs.{needs}
 use Rattle.dayfile.specs.Table.{markerLines}
 use Rattle.dayfile.proofs.Lines.{three-as}

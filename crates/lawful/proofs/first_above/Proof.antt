@@ -1,4 +1,4 @@
--- `marker::lines::first_above` meets its contract: no field passed yet is above its fellow.
+-- `lawful::first_above` meets its contract: no field passed yet is above its fellow.
 use borrow.Author.Needs.{needs}
 use mathlib.Core.Bool.{Bool}
 use mathlib.Core.List.{List}

@@ -1,4 +1,4 @@
--- `marker::lines::first_over` meets its contract: no window passed yet is over its supply.
+-- `lawful::first_over` meets its contract: no window passed yet is over its supply.
 use borrow.Author.Needs.{needs}
 use mathlib.Core.Bool.{Bool}
 use mathlib.Core.List.{List}

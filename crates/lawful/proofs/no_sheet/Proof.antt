@@ -1,4 +1,4 @@
--- `marker::lines::no_sheet` meets its contract: line 13 by cases on the entry of kind 4.
+-- `lawful::no_sheet` meets its contract: line 13 by cases on the entry of kind 4.
 use mathlib.Core.Path.{refl}
 use borrow.Author.Needs.{needs}
 use Rattle.dayfile.specs.Table.{line13}

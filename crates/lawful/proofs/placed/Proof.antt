@@ -1,4 +1,4 @@
--- `marker::lines::placed` meets its contract. Each turn adds one seat's cell.
+-- `lawful::placed` meets its contract. Each turn adds one seat's cell.
 use borrow.Author.Needs.{needs}
 use Prim.Native.Nat.{_-_, _*_, _<_}
 use mathlib.Core.Path.{_∙_}

@@ -1,4 +1,4 @@
--- `marker::lines::window_over` meets its contract: line 15 by cases on the entry of kind 4.
+-- `lawful::window_over` meets its contract: line 15 by cases on the entry of kind 4.
 use borrow.Author.Needs.{needs}
 use mathlib.Core.Path.{_∙_}
 use Rattle.dayfile.proofs.Answers.{at-line, no-line, under-at}

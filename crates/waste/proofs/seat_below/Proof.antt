@@ -1,4 +1,4 @@
--- `marker::waste::seat_below` meets its contract: no seat passed yet is below its cap.
+-- `waste::seat_below` meets its contract: no seat passed yet is below its cap.
 use borrow.Author.Needs.{needs}
 use borrow.Author.Tests.{lt-ltb, le-ltb}
 use mathlib.Core.Bool.{Bool}

@@ -1,4 +1,4 @@
--- `marker::waste::wasted` meets its contract: no window passed yet is wasted.
+-- `waste::wasted` meets its contract: no window passed yet is wasted.
 use borrow.Author.Needs.{needs}
 use borrow.Author.Tests.{lt-ltb, le-ltb}
 use mathlib.Core.Bool.{_&&_}

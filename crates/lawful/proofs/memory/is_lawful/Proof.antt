@@ -1,4 +1,4 @@
--- `marker::lawful::is_lawful` meets its contract: cell by cell, and window by window.
+-- `lawful::memory::is_lawful` meets its contract: cell by cell, and window by window.
 use borrow.Author.Needs.{needs}
 use borrow.Author.Tests.{not-false}
 use mathlib.Core.Bool.{true≢false}

@@ -1,4 +1,4 @@
--- `marker::lawful::row_within` meets its contract: while none is counted, no cell passed yet is above its cap.
+-- `lawful::memory::row_within` meets its contract: while none is counted, no cell passed yet is above its cap.
 use borrow.Author.Needs.{needs}
 use borrow.Author.Tests.{eqb-true}
 use mathlib.Core.Logic.{⊎-elim}

@@ -1,4 +1,4 @@
--- `marker::lawful::within_caps` meets its contract: no seat passed yet has a cell above its cap.
+-- `lawful::memory::within_caps` meets its contract: no seat passed yet has a cell above its cap.
 use borrow.Author.Needs.{needs}
 use borrow.Author.Tests.{not-false}
 use mathlib.Core.Bool.{true≢false}

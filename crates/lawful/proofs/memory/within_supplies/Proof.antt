@@ -1,4 +1,4 @@
--- `marker::lawful::within_supplies` meets its contract: no window passed yet is over its supply.
+-- `lawful::memory::within_supplies` meets its contract: no window passed yet is over its supply.
 use borrow.Author.Needs.{needs}
 use mathlib.Core.Bool.{true≢false}
 use mathlib.Core.Path.{sym}

@@ -1,4 +1,4 @@
--- `trials::numbers::times` does not overflow.
+-- `oracle::numbers::times` does not overflow.
 use Prim.Native.Nat.{_≤_}
 use borrow.Author.Needs.{needs}
 use native.Mathlib.Nat.{mul-le-mul}
