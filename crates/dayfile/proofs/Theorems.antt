@@ -14,7 +14,7 @@ use Rattle.dayfile.specs.Layout.{Bytes, bookOf, sheetOf}
 use Rattle.dayfile.specs.File.{fileOf}
 use Rattle.dayfile.specs.Table.{Refusal, firstOf, readLines, writeLines}
 use Rattle.dayfile.specs.Outcome.{turnedAway, answer, unless, readFile, NoneHolds, FirstHolds}
-use Rattle.dayfile.specs.Memory.{Holds, fileIn, dayBook, daySheet}
+use Rattle.dayfile.specs.Memory.{Holds, fileWith, fileIn, dayBook, daySheet}
 use Rattle.dayfile.specs.declared.Day.{Day}
 use Rattle.dayfile.proofs.Answers.{away, answered}
 use Rattle.dayfile.proofs.Lines.{none-holds, none-first-of, first-holds, holds-first}
@@ -87,7 +87,7 @@ longest-there = (
 -- in memory: a day that the writer's lines take, written and read, is the same in all used entries
 pub memory-reads-back : (d : Day) (room : ℕ) → firstOf (writeLines (fileIn d) room) ≡ none
     → readFile (fileIn d) ≡ answer (dayBook d, daySheet d)
-unfolding fileIn
+unfolding fileWith
 memory-reads-back d room e =
     written-reads-back (dayBook d) (daySheet d)
     (taken-fits (dayBook d) (daySheet d) (book-shaped (d .book) (gridOf (d .caps))) room e)

@@ -19,8 +19,11 @@ sized-cell : (n m : ℕ) (g : Grid) (i j : ℕ) → i < n → j < m → cell (si
 sized-cell n m g i j li lj = ap (λ (r : List ℕ). getD r j 0) (sized-row n m g i li) ∙ sized-at m (getD g i []) j lj
 
 module _ (m : Memory.Book) where
-  pub cell-in : (sheet : Sheet) (i j : ℕ) → i < m .seats → j < m .windows → cell (cellsIn m sheet) i j ≡ credit sheet i j
-  cell-in sheet i j li lj = sized-cell (m .seats) (m .windows) (gridOf sheet) i j li lj ∙ sym (credit-cell sheet i j)
+  pub cell-in : (grid : Grid) (i j : ℕ) → i < m .seats → j < m .windows → cell (cellsIn m grid) i j ≡ cell grid i j
+  cell-in grid i j li lj = sized-cell (m .seats) (m .windows) grid i j li lj
+
+  pub credit-in : (sheet : Sheet) (i j : ℕ) → i < m .seats → j < m .windows → cell (cellsIn m (gridOf sheet)) i j ≡ credit sheet i j
+  credit-in sheet i j li lj = cell-in (gridOf sheet) i j li lj ∙ sym (credit-cell sheet i j)
 
   module _ (caps : Grid) where
     pub cap-in : (i j : ℕ) → i < m .seats → j < m .windows → cell (bookIn m caps .caps) i j ≡ cell caps i j

@@ -9,7 +9,6 @@ use lib.ListN.{length, getD, drop}
 use Rattle.fairness.specs.Leximin.{table}
 use Rattle.model.specs.Lowest.{getOr, isSome}
 use Rattle.model.specs.Book.{Book, Grid, seats, windows}
-use Rattle.sheet.specs.declared.Sheet.{Sheet}
 use Rattle.sheet.specs.Sheets.{gridOf}
 use Rattle.dayfile.specs.Layout.{bookOf, sheetOf}
 use Rattle.dayfile.specs.File.{fileOf}
@@ -42,14 +41,18 @@ bookIn m caps =
       caps = sizedGrid (m .seats) (m .windows) caps;
     }
 
--- the used cells of a sheet that is in memory
-abbrev pub cellsIn : Memory.Book → Sheet → Grid
-cellsIn m sheet = sizedGrid (m .seats) (m .windows) (gridOf sheet)
+-- the used cells of a grid that is in memory
+abbrev pub cellsIn : Memory.Book → Grid → Grid
+cellsIn m grid = sizedGrid (m .seats) (m .windows) grid
 
 -- the sheet that is in memory, if there is one
 abbrev pub sheetIn : Memory.Book → Bool → Grid → Option Grid
-sheetIn m true sheet = some (sizedGrid (m .seats) (m .windows) sheet)
+sheetIn m true sheet = some (cellsIn m sheet)
 sheetIn m false sheet = none
+
+-- the file of a book that is in memory, with or without a sheet
+unfoldable pub fileWith : Memory.Book → Grid → Bool → Grid → List ℕ
+fileWith m caps hasSheet sheet = fileOf (bookIn m caps) (sheetIn m hasSheet sheet)
 
 -- the book of a day, its sheet or its absence, and the file of both
 abbrev pub dayBook : Day → Book
@@ -58,8 +61,8 @@ dayBook d = bookIn (d .book) (gridOf (d .caps))
 abbrev pub daySheet : Day → Option Grid
 daySheet d = sheetIn (d .book) (d .«has_sheet») (gridOf (d .sheet))
 
-unfoldable pub fileIn : Day → List ℕ
-fileIn d = fileOf (dayBook d) (daySheet d)
+abbrev pub fileIn : Day → List ℕ
+fileIn d = fileWith (d .book) (gridOf (d .caps)) (d .«has_sheet») (gridOf (d .sheet))
 
 -- ---- from a file into memory: unused cells are 0
 

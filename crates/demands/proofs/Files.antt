@@ -12,7 +12,7 @@ use Rattle.dayfile.specs.File.{fileOf}
 use Rattle.dayfile.specs.Table.{firstOf, line16, readLines}
 use Rattle.dayfile.specs.Table.{contentsLines, lengthLines, valueLines, optionLines, bufferLines, writeLines}
 use Rattle.dayfile.specs.Outcome.{answer, readFile, NoneHolds}
-use Rattle.dayfile.specs.Memory.{dayBook, daySheet, fileIn, front, written, Reads, WritesDay}
+use Rattle.dayfile.specs.Memory.{dayBook, daySheet, fileWith, fileIn, front, written, Reads, WritesDay}
 use Rattle.dayfile.specs.declared.Day.{Day}
 use Rattle.dayfile.specs.declared.Reading.{Reading}
 use Rattle.dayfile.specs.declared.Written.{Written}
@@ -57,7 +57,7 @@ module _ (f : List ℕ) (bytes : Bytes f) (accepted : NoneHolds (readLines f)) (
 
   -- what is in memory is what stands in the file
   the-file : fileIn (r .day) ≡ f
-  unfolding fileIn
+  unfolding fileWith
   the-file =
       let held = read-day f r h free in
       ap₂ fileOf (held .0) (held .1) ∙ read-writes-back f (bookOf f) (sheetOf f) bytes (accepted-exactly f .1 accepted)

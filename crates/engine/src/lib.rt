@@ -3,38 +3,30 @@
 ghost use Rattle.fairness.specs.Instance.{Instance, Feasible};
 ghost use Rattle.fairness.specs.Exchange.{Settled};
 ghost use Rattle.model.specs.Book.{cell};
-ghost use Rattle.sheet.specs.Sheets.{credit};
 ghost use Rattle.instance.specs.Terms.{instanceIn, Told, Small};
+use fill::fill;
 use instance::Terms;
+use settle::settle;
 use sheet::Caps;
-use sheet::Sheet;
+use start::even_out;
 
-// A settled sheet, from any feasible grid of these terms.
-fn settled_grid(grid: Caps, t: Terms, caps: Caps) -> Sheet
-    requires { ⌜ Small t caps ⌝ }
-    requires { ⌜ Feasible (instanceIn t caps) (cell grid) ⌝ }
-    ensures { λ r. ⌜ ((I : Instance) → Told I t caps → Settled I (credit r)) ⌝ }
+// A settled grid, from any feasible one of these terms.
+pub fn settled_from(grid: Caps, t: Terms, caps: &Caps) -> Caps
+    requires { ⌜ Small t (now caps) ⌝ }
+    requires { ⌜ Feasible (instanceIn t (now caps)) (cell grid) ⌝ }
+    ensures { λ r. ⌜ ((I : Instance) → Told I t (now (caps .entry)) → Settled I (cell r)) ⌝ }
 {
-    let mut filled = grid;
-    fill::fill(&mut filled, caps, t);
-    start::even_out(&mut filled, caps, t);
-    settle::settle(Sheet::from_grid(filled), caps, t)
+    let mut settled = grid;
+    fill(&mut settled, caps, t);
+    even_out(&mut settled, caps, t);
+    settle(&mut settled, caps, t);
+    settled
 }
 
-// A settled sheet, from any feasible sheet of these terms.
-pub fn settled_from(sheet: Sheet, t: Terms, caps: Caps) -> Sheet
-    requires { ⌜ Small t caps ⌝ }
-    requires { ⌜ Feasible (instanceIn t caps) (credit sheet) ⌝ }
-    ensures { λ r. ⌜ ((I : Instance) → Told I t caps → Settled I (credit r)) ⌝ }
+// A settled grid of these terms.
+pub fn settled(t: Terms, caps: &Caps) -> Caps
+    requires { ⌜ Small t (now caps) ⌝ }
+    ensures { λ r. ⌜ ((I : Instance) → Told I t (now (caps .entry)) → Settled I (cell r)) ⌝ }
 {
-    settled_grid(sheet.to_grid(), t, caps)
-}
-
-// A settled sheet of these terms.
-pub fn settled(t: Terms, caps: Caps) -> Sheet
-    requires { ⌜ Small t caps ⌝ }
-    ensures { λ r. ⌜ ((I : Instance) → Told I t caps → Settled I (credit r)) ⌝ }
-{
-    let zeros = [[0u16; 24]; 32];
-    settled_grid(zeros, t, caps)
+    settled_from([[0u16; 24]; 32], t, caps)
 }

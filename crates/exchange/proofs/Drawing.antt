@@ -11,15 +11,13 @@ use Rattle.lists.proofs.Arrays.{zeros-at}
 use Rattle.fairness.specs.Instance.{Instance}
 use Rattle.fairness.specs.Exchange.{Possible}
 use Rattle.model.specs.Book.{Grid, cell}
-use Rattle.sheet.specs.declared.Sheet.{Sheet}
-use Rattle.sheet.specs.Sheets.{credit}
 use Rattle.masks.specs.Sets.{In, Inserted}
 use Rattle.masks.proofs.Laws.{bit-zero}
 use Rattle.instance.specs.declared.Terms.{Terms}
 use Rattle.instance.specs.Terms.{Told, Shows}
 use Rattle.reach.specs.declared.Graph.{Graph}
 use Rattle.reach.specs.Graphs.{setAt, Rows, Leads}
-use Rattle.search.specs.Steps.{Drawn}
+use Rattle.paths.specs.Steps.{Drawn}
 
 -- ---- a further holder
 
@@ -78,44 +76,44 @@ module _ (holders cells : List ℕ) (seat : ℕ) where
 -- ---- the graph
 
 -- a seat is below its cap in a window
-abbrev pub HasRoom : Sheet → Grid → ℕ → ℕ → ℕ → Type 0
-HasRoom sheet caps windows k w = (w < windows) × (credit sheet k w < cell caps k w)
+abbrev pub HasRoom : Grid → Grid → ℕ → ℕ → ℕ → Type 0
+HasRoom grid caps windows k w = (w < windows) × (cell grid k w < cell caps k w)
 
 -- a seat below n has a credit in a window
-abbrev HasCredit : Sheet → ℕ → ℕ → ℕ → ℕ → Type 0
-HasCredit sheet windows n w k = (k < n) × ((w < windows) × (0 < credit sheet k w))
+abbrev HasCredit : Grid → ℕ → ℕ → ℕ → ℕ → Type 0
+HasCredit grid windows n w k = (k < n) × ((w < windows) × (0 < cell grid k w))
 
 -- the sets are the holders of each window among the seats below n
-abbrev pub HoldersOf : Sheet → ℕ → ℕ → List ℕ → Type 0
-HoldersOf sheet windows n sets = (w k : ℕ) → In k (setAt sets w) ↔ HasCredit sheet windows n w k
+abbrev pub HoldersOf : Grid → ℕ → ℕ → List ℕ → Type 0
+HoldersOf grid windows n sets = (w k : ℕ) → In k (setAt sets w) ↔ HasCredit grid windows n w k
 
-pub held-first : (sheet : Sheet) (windows m : ℕ) → HoldersOf sheet windows 0 (replicate m 0)
-held-first sheet windows m w k =
+pub held-first : (grid : Grid) (windows m : ℕ) → HoldersOf grid windows 0 (replicate m 0)
+held-first grid windows m w k =
     (λ p. absurd (omega (arith, rw (zeros-at m w) at p, bit-zero k)), λ h. absurd (omega (arith, h .0)))
 
-pub held-next : (sheet : Sheet) (windows n : ℕ) (sets sets′ cells : List ℕ) → HoldersOf sheet windows n sets
-    → ((w : ℕ) → getD cells w 0 ≡ credit sheet n w) → Added sets cells n windows sets′ → HoldersOf sheet windows (n + 1) sets′
-held-next sheet windows n sets sets′ cells h same a w k = (to, from)
+pub held-next : (grid : Grid) (windows n : ℕ) (sets sets′ cells : List ℕ) → HoldersOf grid windows n sets
+    → ((w : ℕ) → getD cells w 0 ≡ cell grid n w) → Added sets cells n windows sets′ → HoldersOf grid windows (n + 1) sets′
+held-next grid windows n sets sets′ cells h same a w k = (to, from)
   where
-    to : In k (setAt sets′ w) → HasCredit sheet windows (n + 1) w k
+    to : In k (setAt sets′ w) → HasCredit grid windows (n + 1) w k
     to p =
         ⊎-elim
         (λ q. let b = h w k .0 q in (omega (arith, b .0), b .1))
         (λ b. (omega (arith, b .0), (b .1 .0, rw (b .0) (omega (arith, b .1 .1, same w)))))
         (a w k .0 p)
 
-    from : HasCredit sheet windows (n + 1) w k → In k (setAt sets′ w)
+    from : HasCredit grid windows (n + 1) w k → In k (setAt sets′ w)
     from b =
         elim (ℕ-discrete k n) [
           | yes e ↦ a w k .1 (inr (e, (b .1 .0, omega (arith, rw e at (b .1 .1), same w))))
           | no d ↦ a w k .1 (inl (h w k .1 (omega (arith, b .0), b .1)))
         ]
 
-module _ (sheet : Sheet) (caps : Grid) (t : Terms) (graph : Graph)
-    (rooms : Rows (t .seats) (HasRoom sheet caps (t .windows)) (graph .rooms))
-    (held : HoldersOf sheet (t .windows) (t .seats) (graph .holders))
+module _ (grid caps : Grid) (t : Terms) (graph : Graph)
+    (rooms : Rows (t .seats) (HasRoom grid caps (t .windows)) (graph .rooms))
+    (held : HoldersOf grid (t .windows) (t .seats) (graph .holders))
   where
-    module _ (I : Instance) (S : ℕ → ℕ → ℕ) (told : Told I t caps) (shows : Shows t S sheet) where
+    module _ (I : Instance) (S : ℕ → ℕ → ℕ) (told : Told I t caps) (shows : Shows t S grid) where
       to : (k l w : ℕ) → Leads (setAt (graph .rooms) k) (graph .holders) l w → Possible I S (record { window = w; giver = l; taker = k })
       to k l w p =
           let taker = rooms k w .0 (p .member) in
@@ -134,8 +132,8 @@ module _ (sheet : Sheet) (caps : Grid) (t : Terms) (graph : Graph)
           let in-giver : l < t .seats = omega (arith, p .in-giver, told .seats-are) in
           let in-taker : k < t .seats = omega (arith, p .in-taker, told .seats-are) in
           let cells = shows k w in-taker in-window in
-          let room : credit sheet k w < cell caps k w = omega (arith, p .room, cells, told .caps-are k w in-taker in-window) in
-          let has : 0 < credit sheet l w = omega (arith, p .has, shows l w in-giver in-window) in
+          let room : cell grid k w < cell caps k w = omega (arith, p .room, cells, told .caps-are k w in-taker in-window) in
+          let has : 0 < cell grid l w = omega (arith, p .has, shows l w in-giver in-window) in
           record { member = rooms k w .1 (in-taker, (in-window, room)); leads = held w l .1 (in-giver, (in-window, has)) }
 
       pub drawn : Drawn I S graph

@@ -6,19 +6,18 @@ use native.Mathlib.Omega.{arith}
 use Rattle.fairness.specs.Instance.{Instance, Sheet}
 use Rattle.fairness.specs.Exchange.{Move, All, Possible, Exchange}
 use Rattle.fairness.proofs.Theorems.{path-length}
-use Rattle.model.specs.Book.{Grid}
-use Rattle.sheet.specs.declared.Sheet as memory
-use Rattle.sheet.specs.Sheets.{credit}
+use Rattle.model.specs.Book.{Grid, cell}
 use Rattle.instance.specs.declared.Terms.{Terms}
 use Rattle.instance.specs.Terms.{instanceIn, Told, Shows, Ranged}
 use Rattle.instance.proofs.Told.{told-in, shows-itself}
 use Rattle.reach.specs.declared.Graph.{Graph}
-use Rattle.search.specs.declared.ExchangePath.{ExchangePath}
+use Rattle.paths.specs.declared.ExchangePath.{ExchangePath}
 use Rattle.search.specs.declared.Scores.{Scores}
-use Rattle.search.specs.declared.Kind.{Kind}
-use Rattle.search.specs.declared.Kind.the-variants.{None, Improving, WronglyTied}
-use Rattle.search.specs.Paths.{movesOf}
-use Rattle.search.specs.Steps.{Drawn, NoDonor, Nearest, FirstPath, Finds}
+use Rattle.paths.specs.declared.Kind.{Kind}
+use Rattle.paths.specs.declared.Kind.the-variants.{None, Improving, WronglyTied}
+use Rattle.paths.specs.Paths.{movesOf}
+use Rattle.paths.specs.Steps.{Drawn, Nearest}
+use Rattle.search.specs.Steps.{NoDonor, FirstPath, Finds}
 use Rattle.exchange.specs.Paths.{InByte, Writable, Chosen, Answers}
 use Rattle.exchange.proofs.Tests.{testOf, Scored}
 use Rattle.exchange.proofs.Choosing.{chosen, nobody}
@@ -52,10 +51,10 @@ module _ (I : Instance) (S : Sheet) (graph : Graph) (d : Drawn I S graph) (few-s
 
 -- ---- the answer
 
-module _ (t : Terms) (caps : Grid) (sheet : memory.Sheet) (ranged : Ranged t) (scores : Scores) (graph : Graph)
-    (scored : (I : Instance) (S : Sheet) → Told I t caps → Shows t S sheet → Scored I S scores)
-    (drawn : (I : Instance) (S : Sheet) → Told I t caps → Shows t S sheet → Drawn I S graph) where
-  module _ (kind : Kind) (I : Instance) (S : Sheet) (told : Told I t caps) (shows : Shows t S sheet) where
+module _ (t : Terms) (caps grid : Grid) (ranged : Ranged t) (scores : Scores) (graph : Graph)
+    (scored : (I : Instance) (S : Sheet) → Told I t caps → Shows t S grid → Scored I S scores)
+    (drawn : (I : Instance) (S : Sheet) → Told I t caps → Shows t S grid → Drawn I S graph) where
+  module _ (kind : Kind) (I : Instance) (S : Sheet) (told : Told I t caps) (shows : Shows t S grid) where
     picks : (x : ExchangePath) → FirstPath kind scores graph (t .seats) x
         → Chosen I S (testOf kind I S) (x .receiver) (x .donor) (movesOf x)
     picks x f =
@@ -66,12 +65,12 @@ module _ (t : Terms) (caps : Grid) (sheet : memory.Sheet) (ranged : Ranged t) (s
 
   writes : (kind : Kind) (x : ExchangePath) → FirstPath kind scores graph (t .seats) x → Writable x
   writes kind x f =
-      writable (instanceIn t caps) (credit sheet) graph (drawn _ _ (told-in t caps) (shows-itself t sheet))
+      writable (instanceIn t caps) (cell grid) graph (drawn _ _ (told-in t caps) (shows-itself t grid))
       (ranged .seats-most) (ranged .windows-most) kind _ _ x (f .0 .seat) (f .1)
 
   -- what the search finds is right for every instance and sheet that the memory tells and shows
   pub finds-right : (kind : Kind) (x : ExchangePath) → Finds kind scores graph (t .seats) x
-      → Writable x × ((I : Instance) (S : Sheet) → Told I t caps → Shows t S sheet
+      → Writable x × ((I : Instance) (S : Sheet) → Told I t caps → Shows t S grid
       → Answers I S kind (x .receiver) (x .donor) (movesOf x))
   finds-right None x f = (
     none-writable x (f .0),

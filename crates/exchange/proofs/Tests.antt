@@ -6,8 +6,8 @@ use lib.ListN.{getD}
 use Rattle.fairness.specs.Instance.{Instance, Sheet, height}
 use Rattle.fairness.specs.Exchange.{improvesAt, tiesAt}
 use Rattle.search.specs.declared.Scores.{Scores}
-use Rattle.search.specs.declared.Kind.{Kind}
-use Rattle.search.specs.declared.Kind.the-variants.{None, Improving, WronglyTied}
+use Rattle.paths.specs.declared.Kind.{Kind}
+use Rattle.paths.specs.declared.Kind.the-variants.{None, Improving, WronglyTied}
 
 -- the test of a receiver and a donor: paper 01's mark 2 asks for paths that improve, mark 3 for paths that tie wrongly
 abbrev pub testOf : Kind → Instance → Sheet → ℕ → ℕ → Bool

@@ -11,10 +11,10 @@ use Rattle.model.specs.Book.{Book, Grid, cell, instanceOf}
 use Rattle.model.specs.Search.{Found, search, Picked}
 use Rattle.model.proofs.Meaning.{search-some, search-none}
 use Rattle.model.proofs.Tests.{not-true}
-use Rattle.search.specs.declared.ExchangePath.{ExchangePath}
-use Rattle.search.specs.declared.Kind.{Kind}
-use Rattle.search.specs.declared.Kind.the-variants.{None, Improving, WronglyTied}
-use Rattle.search.specs.Paths.{movesOf}
+use Rattle.paths.specs.declared.ExchangePath.{ExchangePath}
+use Rattle.paths.specs.declared.Kind.{Kind}
+use Rattle.paths.specs.declared.Kind.the-variants.{None, Improving, WronglyTied}
+use Rattle.paths.specs.Paths.{movesOf}
 use Rattle.exchange.specs.Paths.{Chosen, Answers}
 
 -- what the search on lists finds

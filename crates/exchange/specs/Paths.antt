@@ -6,10 +6,10 @@ use Prim.Native.Nat.{ℕ, _≤_, _<_}
 use lib.ListN.{length}
 use Rattle.fairness.specs.Instance.{Instance, Sheet}
 use Rattle.fairness.specs.Exchange.{Move, All, Path, improvesAt, tiesAt, Improvable, Tied}
-use Rattle.search.specs.declared.Kind.{Kind}
-use Rattle.search.specs.declared.Kind.the-variants.{None, Improving, WronglyTied}
-use Rattle.search.specs.declared.ExchangePath.{ExchangePath}
-use Rattle.search.specs.Paths.{movesOf}
+use Rattle.paths.specs.declared.Kind.{Kind}
+use Rattle.paths.specs.declared.Kind.the-variants.{None, Improving, WronglyTied}
+use Rattle.paths.specs.declared.ExchangePath.{ExchangePath}
+use Rattle.paths.specs.Paths.{movesOf}
 
 -- a move whose window, giver and taker, counted from 1, fit a byte each
 pub record InByte (m : Move) : Type 0 where

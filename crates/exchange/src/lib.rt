@@ -4,25 +4,24 @@ ghost use mathlib.Core.Logic.{_⊎_, _↔_};
 ghost use Prim.Native.Nat.{ℕ, _≤_, _<_};
 ghost use lib.ListN.{getD};
 ghost use Rattle.fairness.specs.Instance.{Instance, Feasible};
-ghost use Rattle.sheet.specs.Sheets.{credit};
+ghost use Rattle.model.specs.Book.{cell};
 ghost use Rattle.instance.specs.Terms.{instanceIn, Told, Shows, Small};
 ghost use Rattle.masks.specs.Sets.{In};
 ghost use Rattle.reach.specs.Graphs.{setAt, Collects};
-ghost use Rattle.search.specs.Paths.{movesOf};
+ghost use Rattle.paths.specs.Paths.{movesOf};
 ghost use Rattle.exchange.specs.Paths.{Writable, Answers};
 use instance::Terms;
 use reach::Graph;
-use search::ExchangePath;
+use paths::ExchangePath;
 use search::Scores;
 use search::find;
 use sheet::Caps;
-use sheet::Sheet;
 use sheet::row_total;
 
 // The windows in which a row has less than another.
-fn below(a: [u16; 24], b: [u16; 24], windows: usize) -> u32
+fn below(a: &[u16; 24], b: &[u16; 24], windows: usize) -> u32
     requires { ⌜ windows ≤ 24 ⌝ }
-    ensures { λ r. ⌜ Collects windows (λ w. getD a w 0 < getD b w 0) r ⌝ }
+    ensures { λ r. ⌜ Collects windows (λ w. getD (now (a .entry)) w 0 < getD (now (b .entry)) w 0) r ⌝ }
 {
     let mut set: u32 = 0;
     for w in 0..windows {
@@ -34,10 +33,10 @@ fn below(a: [u16; 24], b: [u16; 24], windows: usize) -> u32
 }
 
 // The holders of each window with a further seat, whose cells are given.
-fn with_holder(holders: [u32; 24], cells: [u16; 24], windows: usize, seat: usize) -> [u32; 24]
+fn with_holder(holders: [u32; 24], cells: &[u16; 24], windows: usize, seat: usize) -> [u32; 24]
     requires { ⌜ (windows ≤ 24) × (seat < 32) ⌝ }
     ensures { λ r. ⌜ ((w i : ℕ) → In i (setAt r w) ↔
-        (In i (setAt holders w) ⊎ ((i ≡ seat) × ((w < windows) × (0 < getD cells w 0))))) ⌝ }
+        (In i (setAt holders w) ⊎ ((i ≡ seat) × ((w < windows) × (0 < getD (now (cells .entry)) w 0))))) ⌝ }
 {
     let mut all = holders;
     for w in 0..windows {
@@ -49,11 +48,11 @@ fn with_holder(holders: [u32; 24], cells: [u16; 24], windows: usize, seat: usize
 }
 
 // An exchange path that improves, and where there is none one that ties wrongly.
-pub fn find_path(sheet: Sheet, caps: Caps, t: Terms) -> ExchangePath
-    requires { ⌜ Small t caps ⌝ }
-    requires { ⌜ Feasible (instanceIn t caps) (credit sheet) ⌝ }
+pub fn find_path(grid: &Caps, caps: &Caps, t: Terms) -> ExchangePath
+    requires { ⌜ Small t (now caps) ⌝ }
+    requires { ⌜ Feasible (instanceIn t (now caps)) (cell (now grid)) ⌝ }
     ensures { λ r. ⌜ Writable r ⌝ }
-    ensures { λ r. ⌜ ((I : Instance) (S : ℕ → ℕ → ℕ) → Told I t caps → Shows t S sheet →
+    ensures { λ r. ⌜ ((I : Instance) (S : ℕ → ℕ → ℕ) → Told I t (now (caps .entry)) → Shows t S (now (grid .entry)) →
         Answers I S (r .kind) (r .receiver) (r .donor) (movesOf r)) ⌝ }
 {
     let seats = t.seats;
@@ -64,13 +63,10 @@ pub fn find_path(sheet: Sheet, caps: Caps, t: Terms) -> ExchangePath
     let mut heights = [0u32; 32];
     let mut rooms = [0u32; 32];
     let mut holders = [0u32; 24];
-    // Rows go on to the helpers: each function that takes a sheet or caps by value costs a copy of them.
     for seat in 0..seats {
-        let row = sheet.rows[seat];
-        let cells = row.cells;
-        heights[seat] = bases[seat] + row_total(cells, windows);
-        rooms[seat] = below(cells, caps[seat], windows);
-        let more = with_holder(holders, cells, windows, seat);
+        heights[seat] = bases[seat] + row_total(&grid[seat], windows);
+        rooms[seat] = below(&grid[seat], &caps[seat], windows);
+        let more = with_holder(holders, &grid[seat], windows, seat);
         holders = more;
     }
     let scores = Scores {

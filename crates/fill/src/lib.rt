@@ -52,16 +52,16 @@ fn fill_window(grid: &mut Caps, caps: &Caps, seats: usize, window: usize, supply
 }
 
 // Hands out all free credits of a feasible grid.
-pub fn fill(grid: &mut Caps, caps: Caps, t: Terms)
+pub fn fill(grid: &mut Caps, caps: &Caps, t: Terms)
     requires { ⌜ (t .seats ≤ 32) × (t .windows ≤ 24) ⌝ }
     requires { ⌜ Shaped 32 24 (now grid) ⌝ }
-    requires { ⌜ Feasible (instanceIn t caps) (cell (now grid)) ⌝ }
-    ensures { λ _. ⌜ Filled (t .seats) (t .windows) caps (t .supplies) (now (grid .exit)) ⌝ }
+    requires { ⌜ Feasible (instanceIn t (now caps)) (cell (now grid)) ⌝ }
+    ensures { λ _. ⌜ Filled (t .seats) (t .windows) (now (caps .entry)) (t .supplies) (now (grid .exit)) ⌝ }
 {
     let seats = t.seats;
     let windows = t.windows;
     let supplies = t.supplies;
     for w in 0..windows {
-        fill_window(grid, &caps, seats, w, supplies[w]);
+        fill_window(grid, caps, seats, w, supplies[w]);
     }
 }

@@ -6,10 +6,8 @@ use native.Mathlib.Omega.{arith}
 use Rattle.fairness.specs.Instance.{Instance, Proper, Feasible}
 use Rattle.fairness.specs.Exchange.{Settled}
 use Rattle.fairness.proofs.Alike.{Alike, alike-back, alike-feasible, alike-settled}
-use Rattle.model.specs.Book.{Book, Grid, instanceOf}
+use Rattle.model.specs.Book.{Book, Grid, cell, instanceOf}
 use Rattle.dayfile.specs.Bounds.{Fit}
-use Rattle.sheet.specs.declared.Sheet.{Sheet}
-use Rattle.sheet.specs.Sheets.{credit}
 use Rattle.instance.specs.declared.Terms.{Terms}
 use Rattle.instance.specs.Terms.{instanceIn, Told, Shows, Ranged, Small}
 
@@ -23,9 +21,9 @@ small-told b t caps fit told ranged =
           omega (arith, told .caps-are i j li lj, fit .cap-high i j (omega (arith, told .seats-are)) (omega (arith, told .windows-are)));
     }
 
--- a sheet in memory shows itself
-pub shows-itself : (t : Terms) (sheet : Sheet) → Shows t (credit sheet) sheet
-shows-itself t sheet i j li lj = refl
+-- a grid in memory shows itself
+pub shows-itself : (t : Terms) (grid : Grid) → Shows t (cell grid) grid
+shows-itself t grid i j li lj = refl
 
 module _ (t : Terms) (caps : Grid) where
   -- the numbers tell the instance that they are
@@ -47,14 +45,14 @@ module _ (t : Terms) (caps : Grid) where
   }
 
   -- a feasible sheet has small cells
-  pub feasible-small : Small t caps → (sheet : Sheet) → Feasible (instanceIn t caps) (credit sheet)
-      → (i j : ℕ) → i < t .seats → j < t .windows → credit sheet i j ≤ 4095
-  feasible-small h sheet f i j li lj = le-trans (f .within i j li lj) (h .caps-most i j li lj)
+  pub feasible-small : Small t caps → (grid : Grid) → Feasible (instanceIn t caps) (cell grid)
+      → (i j : ℕ) → i < t .seats → j < t .windows → cell grid i j ≤ 4095
+  feasible-small h grid f i j li lj = le-trans (f .within i j li lj) (h .caps-most i j li lj)
 
   module _ (I : Instance) (told : Told I t caps) where
-    module _ (S : ℕ → ℕ → ℕ) (sheet : Sheet) (shows : Shows t S sheet) where
-      -- to the instance and the sheet that are in memory
-      pub shown-alike : Alike (instanceIn t caps) I (credit sheet) S
+    module _ (S : ℕ → ℕ → ℕ) (grid : Grid) (shows : Shows t S grid) where
+      -- to the instance and the grid that are in memory
+      pub shown-alike : Alike (instanceIn t caps) I (cell grid) S
       shown-alike = record {
         seats = sym (told .seats-are);
         windows = sym (told .windows-are);
@@ -66,9 +64,9 @@ module _ (t : Terms) (caps : Grid) where
         cells = λ i j li lj. sym (shows i j li lj);
       }
 
-      pub shown-feasible : Feasible I S → Feasible (instanceIn t caps) (credit sheet)
-      shown-feasible = alike-feasible I (instanceIn t caps) S (credit sheet) (alike-back (instanceIn t caps) I (credit sheet) S shown-alike)
+      pub shown-feasible : Feasible I S → Feasible (instanceIn t caps) (cell grid)
+      shown-feasible = alike-feasible I (instanceIn t caps) S (cell grid) (alike-back (instanceIn t caps) I (cell grid) S shown-alike)
 
       -- and from them
-      pub shown-settled : Settled (instanceIn t caps) (credit sheet) → Settled I S
-      shown-settled = alike-settled (instanceIn t caps) I (credit sheet) S shown-alike
+      pub shown-settled : Settled (instanceIn t caps) (cell grid) → Settled I S
+      shown-settled = alike-settled (instanceIn t caps) I (cell grid) S shown-alike

@@ -4,8 +4,6 @@ use Prim.Native.Nat.{ℕ, _≤_, _<_}
 use lib.ListN.{getD}
 use Rattle.fairness.specs.Instance.{Instance}
 use Rattle.model.specs.Book.{Grid, cell}
-use Rattle.sheet.specs.declared.Sheet.{Sheet}
-use Rattle.sheet.specs.Sheets.{credit}
 use Rattle.instance.specs.declared.Terms.{Terms}
 
 -- the instance that the numbers and the caps in memory are
@@ -31,9 +29,9 @@ pub record Told (I : Instance) (t : Terms) (caps : Grid) : Type 0 where
   pub bases-are : (i : ℕ) → i < t .seats → I .base i ≡ getD (t .bases) i 0
   pub positions-are : (i : ℕ) → i < t .seats → I .position i ≡ getD (t .positions) i 0
 
--- the used cells of the sheet in memory are those of a sheet S
-abbrev pub Shows : Terms → (ℕ → ℕ → ℕ) → Sheet → Type 0
-Shows t S sheet = (i j : ℕ) → i < t .seats → j < t .windows → S i j ≡ credit sheet i j
+-- the used cells of a grid in memory are those of a sheet S
+abbrev pub Shows : Terms → (ℕ → ℕ → ℕ) → Grid → Type 0
+Shows t S grid = (i j : ℕ) → i < t .seats → j < t .windows → S i j ≡ cell grid i j
 
 -- the ranges of a book's numbers: paper 01's, with room for weights and for bases other than its own
 pub record Ranged (t : Terms) : Type 0 where

@@ -5,9 +5,8 @@ ghost use mathlib.Core.Bool.{true};
 ghost use Prim.Native.Nat.{ℕ, _≤_, _<_};
 ghost use lib.ListN.{getD};
 ghost use Rattle.model.specs.Book.{Lawful};
-ghost use Rattle.sheet.specs.Sheets.{credit};
-ghost use Rattle.dayfile.specs.Memory.{dayBook};
-ghost use Rattle.dayfile.specs.Memory.{cellsIn};
+ghost use Rattle.sheet.specs.Sheets.{credit, gridOf};
+ghost use Rattle.dayfile.specs.Memory.{dayBook, cellsIn};
 use dayfile::Day;
 use sheet::Sheet;
 
@@ -61,7 +60,7 @@ const FEW_SEATS: usize = 8;
 // Whether a day has a sheet that is seen to be lawful.
 pub fn is_lawful(day: Day) -> bool
     requires { ⌜ (day .book .seats ≤ 32) × (day .book .windows ≤ 24) ⌝ }
-    ensures { λ r. ⌜ (r ≡ true → (day .«has_sheet» ≡ true) × Lawful (dayBook day) (cellsIn (day .book) (day .sheet))) ⌝ }
+    ensures { λ r. ⌜ (r ≡ true → (day .«has_sheet» ≡ true) × Lawful (dayBook day) (cellsIn (day .book) (gridOf (day .sheet)))) ⌝ }
 {
     let book = day.book;
     if !day.has_sheet || book.seats < FEW_SEATS {

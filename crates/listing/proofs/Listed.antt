@@ -14,16 +14,16 @@ use Rattle.dayfile.specs.Bounds.{Fit}
 use Rattle.dayfile.specs.Layout.{bookOf}
 use Rattle.dayfile.specs.Table.{refuse, firstOf, line16, readLines, markerLines, sheetLines, bufferLines, markLines, movesRoom}
 use Rattle.dayfile.specs.Outcome.{Outcome, turnedAway, answer}
-use Rattle.dayfile.specs.Memory.{front, dayBook, Reads}
+use Rattle.dayfile.specs.Memory.{front, cellsIn, dayBook, Reads}
 use Rattle.dayfile.specs.declared.Reading.{Reading}
 use Rattle.dayfile.specs.declared.Written as Written
 use Rattle.dayfile.proofs.Answers.{answered, defined-refusal, defined-answer}
 use Rattle.dayfile.proofs.Lines.{none-parts}
 use Rattle.dayfile.proofs.Sound.{sound}
 use Rattle.dayfile.proofs.Accepted.{fits}
+use Rattle.sheet.specs.Sheets.{gridOf}
 use Rattle.marker.specs.declared.Marking.{Marking}
 use Rattle.marker.specs.Marking.{markedSheet, markFile, told, results, PathWritten, BufferAfter, Marks}
-use Rattle.dayfile.specs.Memory.{cellsIn}
 use Rattle.marker.proofs.Theorems.{marks-says, marks-buffer}
 use Rattle.marker.proofs.Files.{book-read, sheet-read}
 use Rattle.lines.specs.Lines.{refusalLine, Printed}
@@ -144,7 +144,7 @@ module _ (file moves written : List ℕ) (r : Marking) (room : length moves ≡ 
 
       pub day-listed : (before after : List ℕ) (n : ℕ) →
           ((ms : List Move) (rest : List ℕ) → written ≡ moveBytes ms ++ rest → x .moves ≡ length ms →
-          Printed before (listingOf (dayBook (y .day)) (cellsIn (y .day .book) (y .day .sheet)) x ms) after n) →
+          Printed before (listingOf (dayBook (y .day)) (cellsIn (y .day .book) (gridOf (y .day .sheet))) x ms) after n) →
           Listed file before after n
       day-listed before after n printed =
           marked-listed before after n (λ ms rest stand count.

@@ -7,6 +7,7 @@ ghost use Rattle.fairness.specs.Exchange.{Move};
 ghost use Rattle.model.specs.Marks.{moveBytes};
 ghost use Rattle.dayfile.specs.Bounds.{Fit};
 ghost use Rattle.dayfile.specs.Memory.{dayBook, cellsIn};
+ghost use Rattle.sheet.specs.Sheets.{gridOf};
 ghost use Rattle.marker.specs.Marking.{resultIn};
 ghost use Rattle.lists.specs.Buffers.{Room, Stored};
 ghost use Rattle.lines.specs.Lines.{Printed};
@@ -82,7 +83,7 @@ fn put_day(out: &mut [u8], day: Day, result: Numbers, moves: &[u8]) -> usize
     requires { ⌜ Fit (dayBook day) × (listingMax ≤ length (now out)) ⌝ }
     requires { ⌜ (result .moves ≤ 31) × (result .moves * 3 ≤ length (now moves)) ⌝ }
     ensures { λ r. ⌜ ((ms : List Move) (rest : List ℕ) → now (moves .entry) ≡ moveBytes ms ++ rest → result .moves ≡ length ms →
-        Printed (now (out .entry)) (listingOf (dayBook day) (cellsIn (day .book) (day .sheet)) (resultIn result) ms)
+        Printed (now (out .entry)) (listingOf (dayBook day) (cellsIn (day .book) (gridOf (day .sheet))) (resultIn result) ms)
         (now (out .exit)) r) ⌝ }
 {
     let book = day.book;

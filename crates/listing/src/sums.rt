@@ -20,7 +20,7 @@ fn totals(sheet: Sheet, seats: usize, windows: usize) -> [u32; 32]
     for i in 0..seats {
         let row = sheet.rows[i];
         let cells = row.cells;
-        totals[i] = sheet::row_total(cells, windows);
+        totals[i] = sheet::row_total(&cells, windows);
     }
     totals
 }

@@ -12,8 +12,8 @@ use Rattle.lists.proofs.Buffers.{stored-none, stored-byte, stored-as, stored-fr
 use Rattle.dayfile.specs.Memory.{front}
 use Rattle.sheet.specs.declared.Move.{Move}
 use Rattle.sheet.specs.Sheets.{moveOf}
-use Rattle.search.specs.declared.ExchangePath.{ExchangePath}
-use Rattle.search.specs.Paths.{movesOf}
+use Rattle.paths.specs.declared.ExchangePath.{ExchangePath}
+use Rattle.paths.specs.Paths.{movesOf}
 use Rattle.exchange.specs.Paths.{InByte, Writable}
 use Rattle.model.specs.Marks.{moveBytes}
 use Rattle.model.proofs.Moves.{move-bytes-length}

@@ -6,10 +6,10 @@ use Rattle.model.specs.Book.{Book, Grid, cell, instanceOf}
 use Rattle.model.specs.Search.{PathOn}
 use Rattle.model.specs.Marks.{Mark, improvable, tied, settled, moveBytes}
 use Rattle.dayfile.specs.Memory.{front}
-use Rattle.search.specs.declared.ExchangePath.{ExchangePath}
-use Rattle.search.specs.declared.Kind.{Kind}
-use Rattle.search.specs.declared.Kind.the-variants.{None, Improving, WronglyTied}
-use Rattle.search.specs.Paths.{movesOf}
+use Rattle.paths.specs.declared.ExchangePath.{ExchangePath}
+use Rattle.paths.specs.declared.Kind.{Kind}
+use Rattle.paths.specs.declared.Kind.the-variants.{None, Improving, WronglyTied}
+use Rattle.paths.specs.Paths.{movesOf}
 use Rattle.exchange.specs.Paths.{Writable, Answers}
 use Rattle.exchange.proofs.Theorems.{foundBy, on-lists}
 use Rattle.marker.specs.declared.Marking.{Marking}

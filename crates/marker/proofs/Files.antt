@@ -22,7 +22,6 @@ use Rattle.dayfile.proofs.Lines.{none-holds, none-parts}
 use Rattle.dayfile.proofs.Tests.{when-none}
 use Rattle.dayfile.proofs.Sound.{sound}
 use Rattle.dayfile.proofs.Accepted.{fits}
-use Rattle.sheet.specs.declared.Sheet.{Sheet}
 use Rattle.sheet.specs.Sheets.{gridOf}
 use Rattle.marker.specs.declared.Marking.{Marking}
 use Rattle.marker.specs.declared.Marking.the-variants.{Refused}
@@ -33,7 +32,7 @@ use Rattle.lawful.proofs.Accepted.{accepted-lawful, has-sheet-of}
 use Rattle.dayfile.proofs.Readings.{read-day}
 
 -- the sheet that is in memory, where there is one
-cells-of : (m : Memory.Book) (there : Bool) (sheet : Sheet) (s : Grid) → sheetIn m there (gridOf sheet) ≡ some s → cellsIn m sheet ≡ s
+cells-of : (m : Memory.Book) (there : Bool) (sheet s : Grid) → sheetIn m there sheet ≡ some s → cellsIn m sheet ≡ s
 cells-of m true sheet s e = ap (λ (o : Option Grid). getOr o []) e
 cells-of m false sheet s e = absurd (let z : _≡_ {A = ℕ} 0 1 = cc in omega arith)
 
@@ -49,10 +48,10 @@ module _ (f : List ℕ) (r : Reading) (reads : Reads f r) (passed : firstOf (she
   pub fit-read : Fit (bookOf f)
   fit-read = fits f (sound f (sheet-parts .0))
 
-  pub sheet-read : cellsIn (r .day .book) (r .day .sheet) ≡ marking.markedSheet f
+  pub sheet-read : cellsIn (r .day .book) (gridOf (r .day .sheet)) ≡ marking.markedSheet f
   sheet-read =
       let s = has-sheet-of f (none-holds (markerLines f) (sheet-parts .1)) in
-      cells-of (r .day .book) (r .day .«has_sheet») (r .day .sheet) (s .0) (read-day f r reads (sheet-parts .0) .1 ∙ s .1)
+      cells-of (r .day .book) (r .day .«has_sheet») (gridOf (r .day .sheet)) (s .0) (read-day f r reads (sheet-parts .0) .1 ∙ s .1)
       ∙ ap (λ (o : Option Grid). getOr o []) (sym (s .1))
 
   pub lawful-read : Lawful (bookOf f) (marking.markedSheet f)
@@ -75,14 +74,15 @@ module _ (f before : List ℕ) (passed : firstOf (markLines f (length before)) �
       let e = none-holds (bufferLines (length before) movesRoom) (parts .1) in
       ltb-false (length before) movesRoom (when-none (ltb (length before) movesRoom) movesRoom (e .0))
 
-  module _ (r : Reading) (reads : Reads f r) (caps : Grid) (caps-are : caps ≡ gridOf (r .day .caps)) where
+  module _ (r : Reading) (reads : Reads f r) (caps sheet : Grid) (caps-are : caps ≡ gridOf (r .day .caps))
+      (sheet-are : sheet ≡ gridOf (r .day .sheet)) where
     book-is : bookIn (r .day .book) caps ≡ bookOf f
     book-is = ap (bookIn (r .day .book)) caps-are ∙ book-read f r reads (parts .0)
 
-    sheet-is : cellsIn (r .day .book) (r .day .sheet) ≡ marking.markedSheet f
-    sheet-is = sheet-read f r reads (parts .0)
+    sheet-is : cellsIn (r .day .book) sheet ≡ marking.markedSheet f
+    sheet-is = ap (cellsIn (r .day .book)) sheet-are ∙ sheet-read f r reads (parts .0)
 
-    pub markable : Markable (r .day .book) caps (r .day .sheet)
+    pub markable : Markable (r .day .book) caps sheet
     markable =
         record {
           fit = rw book-is (fit-read f r reads (parts .0));
@@ -91,8 +91,8 @@ module _ (f before : List ℕ) (passed : firstOf (markLines f (length before)) �
 
     -- the mark
     pub marked-marks : (after : List ℕ) (x : Marking) →
-        MarkedAs (bookIn (r .day .book) caps) (cellsIn (r .day .book) (r .day .sheet))
-        (markOf (bookIn (r .day .book) caps) (cellsIn (r .day .book) (r .day .sheet))) before after x →
+        MarkedAs (bookIn (r .day .book) caps) (cellsIn (r .day .book) sheet)
+        (markOf (bookIn (r .day .book) caps) (cellsIn (r .day .book) sheet)) before after x →
         Marks f before after x
     marked-marks after x h =
         let m : MarkedAs (bookOf f) (marking.markedSheet f) (markOf (bookOf f) (marking.markedSheet f)) before after x =

@@ -10,8 +10,6 @@ use Rattle.model.proofs.Lowest.{lowest-some}
 use Rattle.dayfile.specs.Memory.{bookIn, cellsIn}
 use Rattle.dayfile.specs.declared.Book as Memory
 use Rattle.dayfile.proofs.Held.{seats-in, windows-in}
-use Rattle.sheet.specs.declared.Sheet.{Sheet}
-use Rattle.sheet.specs.Sheets.{credit}
 use Rattle.instance.specs.declared.Terms.{Terms}
 use Rattle.instance.specs.Terms.{instanceIn, Told, Shows, Ranged, Small}
 use Rattle.instance.proofs.Told.{small-told, shown-feasible}
@@ -24,7 +22,7 @@ use Rattle.marker.specs.Steps.{fairMark, MarkedAs, Markable}
 use Rattle.dayfile.proofs.Used.{cell-in}
 use Rattle.marker.proofs.Fair.{marked-as}
 
-module _ (m : Memory.Book) (caps : Grid) (sheet : Sheet) (h : Markable m caps sheet) where
+module _ (m : Memory.Book) (caps sheet : Grid) (h : Markable m caps sheet) where
   -- the numbers that tell the book
   module _ (t : Terms) (told : Told (instanceOf (bookIn m caps)) t caps) where
     pub shows : Shows t (cell (cellsIn m sheet)) sheet
@@ -32,7 +30,7 @@ module _ (m : Memory.Book) (caps : Grid) (sheet : Sheet) (h : Markable m caps sh
     shows i j li lj =
         cell-in m sheet i j (omega (arith, told .seats-are, seats-in m caps)) (omega (arith, told .windows-are, windows-in m caps))
 
-    pub searchable : Ranged t → Small t caps × Feasible (instanceIn t caps) (credit sheet)
+    pub searchable : Ranged t → Small t caps × Feasible (instanceIn t caps) (cell sheet)
     searchable ranged = (
       small-told (bookIn m caps) t caps (h .fit) told ranged,
       shown-feasible t caps (instanceOf (bookIn m caps)) told (cell (cellsIn m sheet)) sheet shows (h .lawful),

@@ -12,7 +12,6 @@ use Rattle.dayfile.specs.Bounds.{Fit}
 use Rattle.dayfile.specs.Outcome.{answer}
 use Rattle.dayfile.specs.Memory.{bookIn, cellsIn}
 use Rattle.dayfile.specs.declared.Book as Memory
-use Rattle.sheet.specs.declared.Sheet.{Sheet}
 use Rattle.marker.specs.declared.Marking.{Marking}
 use Rattle.marker.specs.Marking.{told, BufferAfter}
 
@@ -30,6 +29,6 @@ pub record MarkedAs (b : Book) (s : Grid) (m : Mark) (before after : List ℕ) (
   pub buffer : BufferAfter b s (answer m) before after
 
 -- the book in memory fits, and its sheet is lawful
-pub record Markable (m : Memory.Book) (caps : Grid) (sheet : Sheet) : Type 0 where
+pub record Markable (m : Memory.Book) (caps sheet : Grid) : Type 0 where
   pub fit : Fit (bookIn m caps)
   pub lawful : Lawful (bookIn m caps) (cellsIn m sheet)

@@ -5,7 +5,6 @@ ghost use lib.ListN.{length};
 ghost use Rattle.fairness.specs.Instance.{Feasible};
 ghost use Rattle.model.specs.Book as model;
 ghost use Rattle.model.specs.Marks.{markOf};
-ghost use Rattle.sheet.specs.Sheets.{credit};
 ghost use Rattle.dayfile.specs.Table.{movesRoom};
 ghost use Rattle.dayfile.specs.Memory.{bookIn, cellsIn, Reads};
 ghost use Rattle.instance.specs.Terms.{instanceIn, Told, Shows, Small};
@@ -15,12 +14,12 @@ ghost use Rattle.marker.specs.Steps.{fairMark, MarkedAs, Markable};
 use dayfile::Book;
 use dayfile::Check;
 use dayfile::Reading;
+use exchange::find_path;
 use instance::Terms;
 use lawful::check_file;
 use moves::write_moves;
-use search::Kind;
+use paths::Kind;
 use sheet::Caps;
-use sheet::Sheet;
 use waste::Waste;
 use waste::wasted;
 
@@ -83,13 +82,13 @@ impl Marking {
 }
 
 // Marks 2 to 4, of a sheet that is not wasteful.
-fn mark_full(sheet: Sheet, caps: Caps, t: Terms, moves: &mut [u8]) -> Marking
-    requires { ⌜ Small t caps × Feasible (instanceIn t caps) (credit sheet) ⌝ }
+fn mark_full(cells: &Caps, caps: &Caps, t: Terms, moves: &mut [u8]) -> Marking
+    requires { ⌜ Small t (now caps) × Feasible (instanceIn t (now caps)) (model.cell (now cells)) ⌝ }
     requires { ⌜ movesRoom ≤ length (now moves) ⌝ }
-    ensures { λ r. ⌜ ((b : model.Book) (s : model.Grid) → Told (model.instanceOf b) t caps → Shows t (model.cell s) sheet →
-        MarkedAs b s (fairMark b s) (now (moves .entry)) (now (moves .exit)) r) ⌝ }
+    ensures { λ r. ⌜ ((b : model.Book) (s : model.Grid) → Told (model.instanceOf b) t (now (caps .entry)) →
+        Shows t (model.cell s) (now (cells .entry)) → MarkedAs b s (fairMark b s) (now (moves .entry)) (now (moves .exit)) r) ⌝ }
 {
-    let path = exchange::find_path(sheet, caps, t);
+    let path = find_path(cells, caps, t);
     let kind = path.kind;
     match kind {
         Kind::None => Marking::Settled,
@@ -105,19 +104,19 @@ fn mark_full(sheet: Sheet, caps: Caps, t: Terms, moves: &mut [u8]) -> Marking
 }
 
 // The mark of a lawful sheet in memory.
-fn mark_sheet(book: Book, caps: Caps, sheet: Sheet, moves: &mut [u8]) -> Marking
-    requires { ⌜ Markable book caps sheet ⌝ }
+fn mark_sheet(book: Book, caps: Caps, cells: Caps, moves: &mut [u8]) -> Marking
+    requires { ⌜ Markable book caps cells ⌝ }
     requires { ⌜ movesRoom ≤ length (now moves) ⌝ }
-    ensures { λ r. ⌜ MarkedAs (bookIn book caps) (cellsIn book sheet) (markOf (bookIn book caps) (cellsIn book sheet))
+    ensures { λ r. ⌜ MarkedAs (bookIn book caps) (cellsIn book cells) (markOf (bookIn book caps) (cellsIn book cells))
         (now (moves .entry)) (now (moves .exit)) r ⌝ }
 {
-    if let Waste::At { window, seat } = wasted(book, caps, sheet) {
+    if let Waste::At { window, seat } = wasted(book, &caps, &cells) {
         return Marking::Wasteful {
             window: window + 1,
             seat: seat + 1,
         };
     }
-    mark_full(sheet, caps, instance::terms_of(book), moves)
+    mark_full(&cells, &caps, instance::terms_of(book), moves)
 }
 
 // The mark of the sheet in a day file that was read.
@@ -131,7 +130,8 @@ pub fn mark_reading(file: &[u8], reading: Reading, moves: &mut [u8]) -> Marking
     let day = reading.day;
     let book = day.book;
     let caps = day.caps;
-    mark_sheet(book, caps.to_grid(), day.sheet, moves)
+    let sheet = day.sheet;
+    mark_sheet(book, caps.to_grid(), sheet.to_grid(), moves)
 }
 
 // The mark of the sheet in a day file; the path of marks 2 and 3 is written to the front of the buffer.

@@ -4,9 +4,9 @@ ghost use Prim.Native.Nat.{_*_, _≤_};
 ghost use lib.ListN.{length};
 ghost use Rattle.model.specs.Marks.{moveBytes};
 ghost use Rattle.dayfile.specs.Memory.{front};
-ghost use Rattle.search.specs.Paths.{movesOf};
+ghost use Rattle.paths.specs.Paths.{movesOf};
 ghost use Rattle.exchange.specs.Paths.{Writable};
-use search::ExchangePath;
+use paths::ExchangePath;
 
 // Each move as three bytes at the front of the buffer: window, giver, taker, counted from 1.
 pub fn write_moves(out: &mut [u8], path: ExchangePath)

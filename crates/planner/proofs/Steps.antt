@@ -10,16 +10,11 @@ use borrow.Author.Tests.{lt-ltb, le-ltb}
 use Rattle.fairness.specs.Exchange.{Settled}
 use Rattle.model.specs.Book.{Book, Grid, SheetOf, cell, seats, windows, instanceOf}
 use Rattle.model.proofs.Agree.{agree-settled}
-use Rattle.sheet.specs.declared.Sheet.{Sheet}
-use Rattle.sheet.specs.Sheets.{credit, gridOf}
-use Rattle.sheet.proofs.Cells.{credit-is}
 use Rattle.dayfile.specs.Bounds.{Fit}
 use Rattle.dayfile.specs.Layout.{bookOf}
-use Rattle.dayfile.specs.File.{fileOf}
 use Rattle.dayfile.specs.Table.{Refusal, refuse, firstOf, line16, readLines, bufferLines, planLines, plannedLength}
-use Rattle.dayfile.specs.Memory.{sizedGrid, bookIn, dayBook, fileIn, front, Reads}
+use Rattle.dayfile.specs.Memory.{sizedGrid, bookIn, dayBook, fileWith, front, Reads}
 use Rattle.dayfile.specs.declared.Book as Memory
-use Rattle.dayfile.specs.declared.Day.{Day}
 use Rattle.dayfile.specs.declared.Reading.{Reading}
 use Rattle.dayfile.specs.declared.Written as Written
 use Rattle.dayfile.proofs.Lines.{stop-in, on-after}
@@ -44,10 +39,6 @@ small-caps b t caps fit told ranged =
           omega (arith, told .caps-are i j li lj, fit .cap-high i j (omega (arith, told .seats-are)) (omega (arith, told .windows-are)));
     }
 
--- a day with a sheet
-abbrev pub planned-day : Day → Sheet → Day
-planned-day d s = record { book = d .book; caps = d .caps; «has_sheet» = true; sheet = s }
-
 module _ (m : Memory.Book) (caps g : Grid) where
   abbrev b : Book
   b = bookIn m caps
@@ -65,29 +56,21 @@ module _ (m : Memory.Book) (caps g : Grid) where
       ∙ sized-at (m .windows) (getD g i []) j (omega (arith, windows-in m caps)))
 
   -- the length does not hang on the cells
-  used-length : length (fileOf b (some used)) ≡ plannedLength b
-  used-length = planned-length b used (book-shaped m caps) used-sheet
+  pub planned-size : length (fileWith m caps true g) ≡ plannedLength (bookIn m caps)
+  unfolding fileWith
+  planned-size = planned-length b used (book-shaped m caps) used-sheet
 
   -- a settled grid makes a planned file
-  used-planned : Settled (instanceOf b) (cell g) → (old new : List ℕ) → new ≡ front (fileOf b (some used)) old → Planned b old new
-  unfolding instanceOf
-  used-planned settled old new w =
+  pub planned-is : Settled (instanceOf (bookIn m caps)) (cell g) → (old new : List ℕ) → new ≡ front (fileWith m caps true g) old
+      → Planned (bookIn m caps) old new
+  unfolding instanceOf fileWith
+  planned-is settled old new w =
       record {
         sheet = used;
         a-sheet = used-sheet;
         settled = agree-settled (instanceOf b) (cell g) (cell used) used-cell settled;
         bytes = w;
       }
-
-module _ (d : Day) (s : Sheet) where
-  pub planned-size : length (fileIn (planned-day d s)) ≡ plannedLength (dayBook d)
-  unfolding fileIn
-  planned-size = used-length (d .book) (gridOf (d .caps)) (gridOf s)
-
-  pub planned-is : Settled (instanceOf (dayBook d)) (credit s) → (old new : List ℕ) → new ≡ front (fileIn (planned-day d s)) old →
-      Planned (dayBook d) old new
-  unfolding fileIn
-  planned-is settled old new w = used-planned (d .book) (gridOf (d .caps)) (gridOf s) (rw (← credit-is s) settled) old new w
 
 -- ---- the answers
 

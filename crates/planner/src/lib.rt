@@ -1,7 +1,6 @@
 // Plans the sheet of a day file.
 ghost use Rattle.fairness.specs.Exchange.{Settled};
-ghost use Rattle.model.specs.Book.{instanceOf};
-ghost use Rattle.sheet.specs.Sheets.{credit};
+ghost use Rattle.model.specs.Book.{cell, instanceOf};
 ghost use Rattle.dayfile.specs.Bounds.{Fit};
 ghost use Rattle.dayfile.specs.Memory.{bookIn};
 ghost use Rattle.planner.specs.Planning.{Plans};
@@ -9,14 +8,13 @@ use dayfile::Book;
 use dayfile::Check;
 use dayfile::Written;
 use sheet::Caps;
-use sheet::Sheet;
 
 // A settled sheet of the book that is in memory.
-fn planned_sheet(book: Book, caps: Caps) -> Sheet
+fn planned_sheet(book: Book, caps: Caps) -> Caps
     requires { ⌜ Fit (bookIn book caps) ⌝ }
-    ensures { λ r. ⌜ Settled (instanceOf (bookIn book caps)) (credit r) ⌝ }
+    ensures { λ r. ⌜ Settled (instanceOf (bookIn book caps)) (cell r) ⌝ }
 {
-    engine::settled(instance::terms_of(book), caps)
+    engine::settled(instance::terms_of(book), &caps)
 }
 
 // The planned file at the front of the buffer, or the refusal.
@@ -36,7 +34,8 @@ pub fn plan(file: &[u8], out: &mut [u8]) -> Written
             at: need,
         };
     }
-    let sheet = planned_sheet(book, reading.day.caps.to_grid());
-    let length = store::put_file(out, book, reading.day.caps, true, sheet);
+    let caps = reading.day.caps.to_grid();
+    let sheet = planned_sheet(book, caps);
+    let length = store::put_file(out, book, &caps, true, &sheet);
     Written::Whole { length }
 }

@@ -12,7 +12,7 @@ use Rattle.masks.proofs.Machine.{lowest-is}
 use lib.Count.{trailingZeros}
 use Rattle.reach.specs.declared.Graph.{Graph}
 use Rattle.reach.specs.declared.Wave.{Wave}
-use Rattle.reach.specs.Graphs.{setAt, UnionOver, Takes, Reach, Reached, Spread, Grown}
+use Rattle.reach.specs.Graphs.{setAt, Through, UnionOver, Takes, Reach, Reached, Spread, Grown}
 use Rattle.reach.proofs.Members.{at-small}
 
 module _ (graph : Graph) (g : ℕ) where
@@ -60,20 +60,30 @@ module _ (graph : Graph) (g : ℕ) where
           | no d ↦ old l (s .shut v l (omega (arith, shuts v, bit-lt left v)) p)
         ]
 
+    -- who is seen and was not holds a credit in a window that is looked into now
+    in-far : (l : ℕ) → In l seen → (In l (w .seen) → ⊥) → In l far
+    in-far l p d = omega (arith, joined l, fresh l, bit-lt (w .seen) l, bit-lt far l)
+
+    in-near : (v : ℕ) → In v left → In v near
+    in-near v p = omega (arith, shared v, bit-lt near v)
+
+    in-seen : (k : ℕ) → In k (w .front) → In k (w .seen)
+    in-seen k p = omega (arith, s .within k, bit-lt (w .seen) k)
+
+    -- a seat in front has room in a window, and l holds a credit there
+    step : (l : ℕ) (held : Through left (graph .holders) l) → Through (w .front) (graph .rooms) (held .via) → Reach graph (suc n) g l
+    step l held k =
+        let takes : Takes graph (k .via) l = record { via = held .via; here = record { member = k .here .leads; leads = held .here .leads } } in
+        inr (k .via, (s .layer (k .via) .0 (in-seen (k .via) (k .here .member)), takes))
+
+    new : (l : ℕ) → Through left (graph .holders) l → Reach graph (suc n) g l
+    new l via = step l via (rooms .sound (via .via) (in-near (via .via) (via .here .member)))
+
     to : (l : ℕ) → In l seen → Reach graph (suc n) g l
-    to l p =
-        elim (ℕ-discrete (bit (w .seen) l) 1) [
-          | yes e ↦ inl (s .layer l .0 e)
-          | no d ↦
-              let in-far : In l far = omega (arith, joined l, fresh l, bit-lt (w .seen) l, bit-lt far l) in
-              let via = held .sound l in-far in
-              let in-near : In (via .via) near = omega (arith, via .here .member, shared (via .via), bit-lt near (via .via)) in
-              let k = rooms .sound (via .via) in-near in
-              let in-seen : In (k .via) (w .seen) = omega (arith, k .here .member, s .within (k .via), bit-lt (w .seen) (k .via)) in
-              let takes : Takes graph (k .via) l =
-              record { via = via .via; here = record { member = k .here .leads; leads = via .here .leads } } in
-              inr (k .via, (s .layer (k .via) .0 in-seen, takes))
-        ]
+    to l p = elim (ℕ-discrete (bit (w .seen) l) 1) [
+      | yes e ↦ inl (s .layer l .0 e)
+      | no d ↦ new l (held .sound l (in-far l p d))
+    ]
 
     from : (l : ℕ) → Reach graph (suc n) g l → In l seen
     from l (inl p) = old l (s .layer l .1 p)

@@ -36,13 +36,6 @@ pub record UnionOver (set : ℕ) (sets : List ℕ) (all : ℕ) : Type 0 where
   pub sound : (l : ℕ) → In l all → Through set sets l
   pub whole : (l : ℕ) → Through set sets l → In l all
 
--- i is a member of a set, and its own set shares a member with another
-pub record Meets (set : ℕ) (sets : List ℕ) (other i : ℕ) : Type 0 where
-  pub member : In i set
-  pub shared : ℕ
-  pub own : In shared (setAt sets i)
-  pub others : In shared other
-
 -- ---- what a receiver reaches
 
 -- k can take a credit from l: l holds one in a window in which k has room
@@ -61,16 +54,6 @@ Reached graph g l = (r : ℕ) × Reach graph r g l
 -- a set is what at most r moves reach from g
 abbrev pub Layer : Graph → ℕ → ℕ → ℕ → Type 0
 Layer graph g r set = (l : ℕ) → In l set ↔ Reach graph r g l
-
--- the set at each number of moves up to 31 is what so many moves at most reach from g
-abbrev pub Layers : Graph → ℕ → List ℕ → Type 0
-Layers graph g sets = (r : ℕ) → r < 32 → Layer graph g r (setAt sets r)
-
--- r is the least index of a set that has l
-pub record Fewest (sets : List ℕ) (l r : ℕ) : Type 0 where
-  pub small : r < 32
-  pub here : In l (setAt sets r)
-  pub least : (q : ℕ) → q < r → bit (setAt sets q) l ≡ 0
 
 -- ---- the search outward
 

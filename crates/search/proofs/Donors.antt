@@ -16,8 +16,8 @@ use Rattle.reach.specs.declared.Graph.{Graph}
 use Rattle.reach.specs.Graphs.{Reached}
 use Rattle.reach.proofs.Members.{out-zero}
 use Rattle.search.specs.declared.Scores.{Scores}
-use Rattle.search.specs.declared.Kind.{Kind}
-use Rattle.search.specs.declared.Kind.the-variants.{None, Improving, WronglyTied}
+use Rattle.paths.specs.declared.Kind.{Kind}
+use Rattle.paths.specs.declared.Kind.the-variants.{None, Improving, WronglyTied}
 use Rattle.search.specs.Tests.{testBy, scoreAt, Wants}
 use Rattle.search.specs.Steps.{Donor, First, FirstPair}
 

@@ -1,4 +1,3 @@
 -- What the search answers, and what its parts do.
-pub mod Paths
 pub mod Tests
 pub mod Steps

@@ -7,8 +7,8 @@ use Rattle.fairness.specs.Exchange.{improves, tiesWrongly}
 use Rattle.fairness.specs.Numbers.{Moderate}
 use Rattle.search.specs.declared.Score.{Score}
 use Rattle.search.specs.declared.Scores.{Scores}
-use Rattle.search.specs.declared.Kind.{Kind}
-use Rattle.search.specs.declared.Kind.the-variants.{None, Improving, WronglyTied}
+use Rattle.paths.specs.declared.Kind.{Kind}
+use Rattle.paths.specs.declared.Kind.the-variants.{None, Improving, WronglyTied}
 
 -- the test of a receiver and a donor by their scores: for a path that improves, and for one that ties wrongly
 abbrev pub testBy : Kind → Score → Score → Bool

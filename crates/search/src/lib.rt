@@ -3,27 +3,13 @@ ghost use mathlib.Core.Path.{_≡_};
 ghost use mathlib.Core.Logic.{_↔_};
 ghost use Prim.Native.Nat.{ℕ, _≤_, _<_};
 ghost use Rattle.masks.specs.Sets.{In};
-ghost use Rattle.reach.specs.Graphs.{Reached, Layers, Fewest};
 ghost use Rattle.search.specs.Tests.{testBy, Tested, Bounded, Wants};
-ghost use Rattle.search.specs.Steps.{Receives, Firsts, Gives, GivesBy, Leading, Nearest, Finds};
+ghost use Rattle.search.specs.Steps.{Receives, Firsts, Finds};
+use paths::ExchangePath;
+use paths::Kind;
+use paths::no_path;
+use paths::path_to;
 use reach::Graph;
-use sheet::Move;
-
-// What an exchange path does: it improves the sheet, or ties wrongly. Or there is none.
-pub enum Kind {
-    None,
-    Improving,
-    WronglyTied,
-}
-
-// An exchange path from a receiver to a donor, its moves from the receiver's on.
-pub struct ExchangePath {
-    pub kind: Kind,
-    pub receiver: usize,
-    pub donor: usize,
-    pub count: usize,
-    pub moves: [Move; 31],
-}
 
 // What the tests look at of a seat: its height, its weight, and its place in the order of the seat rule.
 pub struct Score {
@@ -155,80 +141,6 @@ fn first_pair(kind: Kind, scores: Scores, graph: Graph, seats: usize) -> Pair
                 donor: masks::lowest(donors),
             }
         }
-    }
-}
-
-// A move by which a seat gives to a member of a set.
-fn move_from(graph: Graph, set: u32, giver: usize) -> Move
-    requires { ⌜ (giver < 32) × Gives graph set giver ⌝ }
-    ensures { λ r. ⌜ GivesBy graph set giver r ⌝ }
-{
-    let rooms = graph.rooms;
-    let holders = graph.holders;
-    let windows = reach::column(&holders, giver);
-    let taker = reach::first_meeting(set, &rooms, windows);
-    let window = masks::lowest(masks::intersect(rooms[taker], windows));
-    Move {
-        window,
-        giver,
-        taker,
-    }
-}
-
-// The moves of a shortest path to a donor, from the layers that each number of moves reaches: from the donor back, the taker of each move
-// is a seat of the layer before.
-fn moves_to(graph: Graph, sets: [u32; 32], donor: usize, count: usize) -> [Move; 31]
-    requires { ⌜ Fewest sets donor count × ((g : ℕ) × Layers graph g sets) ⌝ }
-    ensures { λ r. ⌜ Leading graph sets donor count r ⌝ }
-{
-    let none = Move {
-        window: 0,
-        giver: 0,
-        taker: 0,
-    };
-    let mut moves = [none; 31];
-    let mut giver = donor;
-    let mut r = count;
-    while r > 0 {
-        r -= 1;
-        let m = move_from(graph, sets[r], giver);
-        moves[r] = m;
-        giver = m.taker;
-    }
-    moves
-}
-
-// An exchange path from a receiver to a donor that has the fewest moves.
-fn path_to(kind: Kind, graph: Graph, receiver: usize, donor: usize) -> ExchangePath
-    requires { ⌜ (receiver < 32) × Reached graph receiver donor ⌝ }
-    ensures { λ r. ⌜ Nearest kind graph receiver donor r ⌝ }
-{
-    let sets = reach::layers(graph, receiver);
-    let count = reach::fewest(sets, donor);
-    ExchangePath {
-        kind,
-        receiver,
-        donor,
-        count,
-        moves: moves_to(graph, sets, donor, count),
-    }
-}
-
-// No exchange path.
-fn no_path() -> ExchangePath
-    ensures { λ r. ⌜ (r .kind ≡ Kind.None) × (r .count ≡ 0) ⌝ }
-{
-    let none = Move {
-        window: 0,
-        giver: 0,
-        taker: 0,
-    };
-    ExchangePath {
-        kind: Kind::None,
-        receiver: 0,
-        donor: 0,
-        count: 0,
-        moves: [none; 31],
     }
 }
 

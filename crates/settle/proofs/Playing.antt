@@ -9,9 +9,12 @@ use lib.ListN.{length, getD, drop, drop-of-length-le}
 use lib.Seq.{drop-cons}
 use Rattle.fairness.specs.Instance.{Instance, Sheet}
 use Rattle.fairness.specs.Exchange.{Move, play, playAll, PlaysOut}
-use Rattle.sheet.specs.Sheets.{Playable}
+use Rattle.model.specs.Book.{Grid, cell}
+use Rattle.sheet.specs.declared.Sheet as memory
+use Rattle.sheet.specs.Sheets.{credit, gridOf, Playable}
+use Rattle.sheet.proofs.Cells.{credit-is}
 use Rattle.sheet.proofs.Moves.{playable}
-use Rattle.settle.specs.Playing.{AllPlayable}
+use Rattle.settle.specs.Playing.{AllPlayable, Plays}
 
 -- moves that play out are playable, where the book fits the arrays
 pub all-playable : (I : Instance) (S : Sheet) (ms : List Move) → I .seats ≤ 32 → I .windows ≤ 24
@@ -55,3 +58,12 @@ module _ (S : Sheet) (ms : List Move) where
   last k T played l i j =
       let done = ap (playAll T) (sym (drop-of-length-le ms l)) ∙ played .same in
       ap (λ (f : Sheet). f i j) done
+
+-- ---- a grid that is played on as a sheet
+
+module _ (g r : Grid) (s t : memory.Sheet) (ms : List Move) where
+  pub sheet-able : gridOf s ≡ g → AllPlayable (cell g) ms → AllPlayable (credit s) ms
+  sheet-able e p = rw (credit-is s, e) p
+
+  pub grid-plays : gridOf s ≡ g → r ≡ gridOf t → Plays (credit s) ms (credit t) → Plays (cell g) ms (cell r)
+  grid-plays e f p = rw (← e, f, ← credit-is s, ← credit-is t) p

@@ -7,19 +7,17 @@ use Prim.Native.Nat.{ℕ, _<_}
 use Rattle.fairness.specs.Instance.{Instance}
 use Rattle.fairness.specs.Exchange.{Move, Path, playAll, improvesAt, tiesAt, Settled}
 use Rattle.fairness.proofs.Theorems.{path-plays, path-feasible, path-full, path-measure, measure}
-use Rattle.model.specs.Book.{Grid}
-use Rattle.sheet.specs.declared.Sheet.{Sheet}
-use Rattle.sheet.specs.Sheets.{credit}
-use Rattle.search.specs.declared.Kind.{Kind}
-use Rattle.search.specs.declared.Kind.the-variants.{None, Improving, WronglyTied}
-use Rattle.search.specs.declared.ExchangePath.{ExchangePath}
-use Rattle.search.specs.Paths.{movesOf}
+use Rattle.model.specs.Book.{Grid, cell}
+use Rattle.paths.specs.declared.Kind.{Kind}
+use Rattle.paths.specs.declared.Kind.the-variants.{None, Improving, WronglyTied}
+use Rattle.paths.specs.declared.ExchangePath.{ExchangePath}
+use Rattle.paths.specs.Paths.{movesOf}
 use Rattle.exchange.specs.Paths.{Answers}
 use Rattle.instance.specs.declared.Terms.{Terms}
 use Rattle.instance.specs.Terms.{instanceIn, Told, Small}
 use Rattle.instance.proofs.Told.{small-proper, shows-itself, shown-settled}
 use Rattle.fill.specs.Fills.{Full}
-use Rattle.settle.specs.Playing.{AllPlayable}
+use Rattle.settle.specs.Playing.{AllPlayable, Plays}
 use Rattle.settle.proofs.Playing.{all-playable}
 
 -- ---- the path of a turn
@@ -35,13 +33,13 @@ leads I S WronglyTied g l ms d a = (a .1 .path, inr (a .1 .passes))
 
 -- ---- a turn
 
-module _ (t : Terms) (caps : Grid) (small : Small t caps) (sheet : Sheet) (full : Full (instanceIn t caps) (credit sheet))
-    (x : ExchangePath) (answers : Answers (instanceIn t caps) (credit sheet) (x .kind) (x .receiver) (x .donor) (movesOf x)) where
+module _ (t : Terms) (caps : Grid) (small : Small t caps) (grid : Grid) (full : Full (instanceIn t caps) (cell grid))
+    (x : ExchangePath) (answers : Answers (instanceIn t caps) (cell grid) (x .kind) (x .receiver) (x .donor) (movesOf x)) where
   abbrev I : Instance
   I = instanceIn t caps
 
   abbrev S : ℕ → ℕ → ℕ
-  S = credit sheet
+  S = cell grid
 
   module _ (there : x .kind ≢ None) where
     way : Leads I S (x .receiver) (x .donor) (movesOf x)
@@ -52,7 +50,7 @@ module _ (t : Terms) (caps : Grid) (small : Small t caps) (sheet : Sheet) (full 
         all-playable I S (movesOf x) (small .ranged .seats-most) (small .ranged .windows-most) (small .caps-most)
         (path-plays I S (x .receiver) (x .donor) (movesOf x) (way .0))
 
-    module _ (T : ℕ → ℕ → ℕ) (q : (i j : ℕ) → T i j ≡ playAll S (movesOf x) i j) where
+    module _ (T : ℕ → ℕ → ℕ) (q : Plays S (movesOf x) T) where
       after : T ≡ playAll S (movesOf x)
       after = fun-ext (λ i. fun-ext (λ j. q i j))
 
@@ -72,5 +70,5 @@ module _ (t : Terms) (caps : Grid) (small : Small t caps) (sheet : Sheet) (full 
   pub turn-last : x .kind ≡ None → (J : Instance) → Told J t caps → Settled J S
   turn-last e J told =
       let none = rw e at answers in
-      shown-settled t caps J told S sheet (shows-itself t sheet)
+      shown-settled t caps J told S grid (shows-itself t grid)
       (record { feasible = full .feasible; full = full .unwasted; fair = none .0; ordered = none .1 })

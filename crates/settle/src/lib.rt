@@ -1,49 +1,47 @@
-// From a sheet that is feasible and not wasteful to a settled one of the same book.
-ghost use mathlib.Core.Path.{_≡_};
-ghost use Prim.Native.Nat.{ℕ};
+// From a grid that is feasible and not wasteful to a settled one of the same book.
 ghost use Rattle.fairness.specs.Instance.{Instance};
-ghost use Rattle.fairness.specs.Exchange.{playAll, Settled};
-ghost use Rattle.sheet.specs.Sheets.{credit};
-ghost use Rattle.search.specs.Paths.{movesOf};
+ghost use Rattle.fairness.specs.Exchange.{Settled};
+ghost use Rattle.model.specs.Book.{cell};
+ghost use Rattle.paths.specs.Paths.{movesOf};
 ghost use Rattle.exchange.specs.Paths.{Writable};
 ghost use Rattle.fill.specs.Fills.{Full};
 ghost use Rattle.instance.specs.Terms.{instanceIn, Told, Small};
-ghost use Rattle.settle.specs.Playing.{AllPlayable};
+ghost use Rattle.settle.specs.Playing.{AllPlayable, Plays};
+use exchange::find_path;
 use instance::Terms;
-use search::ExchangePath;
-use search::Kind;
+use paths::ExchangePath;
+use paths::Kind;
 use sheet::Caps;
 use sheet::Sheet;
 
-// The sheet after the moves of an exchange path, played one after another.
-pub fn play_path(sheet: Sheet, path: ExchangePath) -> Sheet
+// The grid after the moves of an exchange path, played one after another.
+pub fn play_path(grid: Caps, path: ExchangePath) -> Caps
     requires { ⌜ Writable path ⌝ }
-    requires { ⌜ AllPlayable (credit sheet) (movesOf path) ⌝ }
-    ensures { λ r. ⌜ ((i j : ℕ) → credit r i j ≡ playAll (credit sheet) (movesOf path) i j) ⌝ }
+    requires { ⌜ AllPlayable (cell grid) (movesOf path) ⌝ }
+    ensures { λ r. ⌜ Plays (cell grid) (movesOf path) (cell r) ⌝ }
 {
     let count = path.count;
     let moves = path.moves;
-    let mut after = sheet;
+    let mut after = Sheet::from_grid(grid);
     for k in 0..count {
         let m = moves[k];
         after = after.play(m);
     }
-    after
+    after.to_grid()
 }
 
-// A settled sheet of the same book: exchange paths are played until none is left.
-pub fn settle(sheet: Sheet, caps: Caps, t: Terms) -> Sheet
-    requires { ⌜ Small t caps ⌝ }
-    requires { ⌜ Full (instanceIn t caps) (credit sheet) ⌝ }
-    ensures { λ r. ⌜ ((I : Instance) → Told I t caps → Settled I (credit r)) ⌝ }
+// Makes a grid a settled one of the same book: exchange paths are played until none is left.
+pub fn settle(grid: &mut Caps, caps: &Caps, t: Terms)
+    requires { ⌜ Small t (now caps) ⌝ }
+    requires { ⌜ Full (instanceIn t (now caps)) (cell (now grid)) ⌝ }
+    ensures { λ _. ⌜ ((I : Instance) → Told I t (now (caps .entry)) → Settled I (cell (now (grid .exit)))) ⌝ }
 {
-    let mut settled = sheet;
     loop {
-        let path = exchange::find_path(settled, caps, t);
+        let path = find_path(grid, caps, t);
         let kind = path.kind;
         if let Kind::None = kind {
-            return settled;
+            return;
         }
-        settled = play_path(settled, path);
+        *grid = play_path(*grid, path);
     }
 }

@@ -8,6 +8,7 @@ use native.Mathlib.Omega.{arith}
 use lib.ListN.{length, getD, set, replicate, length-set, List·getD-map}
 use lib.Seq.{getD-set-same, getD-set-other}
 use Rattle.lists.proofs.Arrays.{zeros-at}
+use Rattle.fairness.specs.Sums.{sum}
 use Rattle.model.specs.Book.{Grid, cell, Shaped}
 use Rattle.sheet.specs.declared.Row.{Row}
 use Rattle.sheet.specs.declared.Sheet.{Sheet}
@@ -26,6 +27,10 @@ credit-cell s i j = ap (λ (l : List ℕ). getD l j 0) (sym (row-is s i))
 -- the same functions
 pub credit-is : (s : Sheet) → credit s ≡ cell (gridOf s)
 credit-is s = fun-ext (λ i. fun-ext (λ j. credit-cell s i j))
+
+-- the same sums
+pub placed-is : (s : Sheet) (g : Grid) → g ≡ gridOf s → (n j : ℕ) → sum n (λ i. cell g i j) ≡ sum n (λ i. credit s i j)
+placed-is s g e n j = ap (λ (f : ℕ → ℕ → ℕ). sum n (λ i. f i j)) (ap cell e ∙ sym (credit-is s))
 
 -- rows of zeros
 pub all-zero : (n m i j : ℕ) → credit (record { rows = replicate n (record { cells = replicate m 0 }) }) i j ≡ 0

@@ -13,8 +13,7 @@ use borrow.Author.Needs.{elem-fits, elem-fits-field, length-unmapped, needs}
 use Rattle.model.specs.Book.{Grid, cell, Shaped}
 use Rattle.sheet.specs.declared.Row.{Row}
 use Rattle.sheet.specs.declared.Sheet.{Sheet}
-use Rattle.sheet.specs.Sheets.{credit, gridOf}
-use Rattle.sheet.proofs.Cells.{credit-cell}
+use Rattle.sheet.specs.Sheets.{gridOf}
 use Rattle.sheet.proofs.Row.{the-field}
 use Rattle.sheet.proofs.Sheet.{the-row}
 
@@ -80,6 +79,3 @@ shaped s vs p =
       };
       small = λ i j. fits-row (s .rows) (a .0) i j (a .1 .1) .fits;
     }
-
-pub credit-small : (s : Sheet) (vs : List Val) → shadow (the-row .own s vs) → (i j : ℕ) → credit s i j < 65536
-credit-small s vs p i j = omega (arith, credit-cell s i j, shaped s vs p .small i j)

@@ -31,3 +31,6 @@ module _ (f : ℕ → ℕ) (n : ℕ) where
 
   pub last : (k t : ℕ) → Summed f n k t → n ≤ k → t ≡ sum n f
   last k t s l = let e : k ≡ n = omega (arith, s .within) in omega (arith, s .total, ap (λ (x : ℕ). sum x f) e)
+
+  pub last-most : (k t : ℕ) → Summed f n k t → n ≤ k → t ≤ 65535 * n
+  last-most k t s l = omega (arith, s .within, s .bound)

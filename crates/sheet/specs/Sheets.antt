@@ -3,7 +3,7 @@
 use mathlib.Core.Path.{_≡_}
 use mathlib.Core.Logic.{_≢_}
 use mathlib.Core.List.{[], map}
-use Prim.Native.Nat.{ℕ, _<_}
+use Prim.Native.Nat.{ℕ, _+_, _≤_, _<_}
 use lib.ListN.{getD}
 use Rattle.fairness.specs.Exchange as exchange
 use Rattle.model.specs.Book.{Grid}
@@ -35,6 +35,11 @@ pub record Playable (s : ℕ → ℕ → ℕ) (m : exchange.Move) : Type 0 where
   pub in-taker : m .taker < 32
   pub has : 0 < s (m .giver) (m .window)
   pub room : s (m .taker) (m .window) < 65535
+
+-- r is a sum s with a further cell c, which has 16 bits
+pub record Added (s c r : ℕ) : Type 0 where
+  pub sum-is : r ≡ s + c
+  pub most : r ≤ s + 65535
 
 -- r is s with the number v at seat i in window j
 pub record Written (s : ℕ → ℕ → ℕ) (i j v : ℕ) (r : ℕ → ℕ → ℕ) : Type 0 where

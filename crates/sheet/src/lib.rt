@@ -1,11 +1,11 @@
 // The data in memory: a sheet of credits as arrays, its sums and its moves.
 ghost use mathlib.Core.Path.{_≡_};
-ghost use Prim.Native.Nat.{ℕ, _+_, _≤_, _<_};
+ghost use Prim.Native.Nat.{ℕ, _*_, _≤_, _<_};
 ghost use lib.ListN.{getD};
 ghost use Rattle.fairness.specs.Sums.{sum};
 ghost use Rattle.fairness.specs.Exchange.{play};
 ghost use Rattle.model.specs.Book.{cell};
-ghost use Rattle.sheet.specs.Sheets.{credit, gridOf, moveOf, Playable};
+ghost use Rattle.sheet.specs.Sheets.{credit, gridOf, moveOf, Added, Playable};
 
 // A seat's cells, one for each window.
 #[repr(C)]
@@ -29,26 +29,46 @@ pub struct Move {
 // The most each seat can use in each window.
 pub type Caps = [[u16; 24]; 32];
 
+// A cell as a term of a sum.
+fn wide(x: u16) -> u32
+    ensures { λ r. ⌜ (r ≡ x) × (r < 65536) ⌝ }
+{
+    x as u32
+}
+
 // The first cells of a row together.
-pub fn row_total(row: [u16; 24], windows: usize) -> u32
+pub fn row_total(row: &[u16; 24], windows: usize) -> u32
     requires { ⌜ windows ≤ 24 ⌝ }
-    ensures { λ r. ⌜ r ≡ sum windows (λ j. getD row j 0) ⌝ }
+    ensures { λ r. ⌜ (r ≡ sum windows (λ j. getD (now (row .entry)) j 0)) × (r ≤ 65535 * windows) ⌝ }
 {
     let mut total: u32 = 0;
     for w in 0..windows {
-        total += row[w] as u32;
+        total += wide(row[w]);
     }
     total
 }
 
 // Sums with the first cells of a row added to them.
-fn add_row(mut sums: [u32; 24], row: [u16; 24], windows: usize) -> [u32; 24]
+fn add_row(mut sums: [u32; 24], row: &[u16; 24], windows: usize) -> [u32; 24]
     requires { ⌜ windows ≤ 24 ⌝ }
     requires { ⌜ ((j : ℕ) → j < windows → getD sums j 0 ≤ 4294901760) ⌝ }
-    ensures { λ r. ⌜ ((j : ℕ) → j < windows → getD r j 0 ≡ getD sums j 0 + getD row j 0) ⌝ }
+    ensures { λ r. ⌜ ((j : ℕ) → j < windows → Added (getD sums j 0) (getD (now (row .entry)) j 0) (getD r j 0)) ⌝ }
 {
     for j in 0..windows {
-        sums[j] += row[j] as u32;
+        sums[j] += wide(row[j]);
+    }
+    sums
+}
+
+// Each window's cells together.
+pub fn placed(grid: &Caps, seats: usize, windows: usize) -> [u32; 24]
+    requires { ⌜ (seats ≤ 32) × (windows ≤ 24) ⌝ }
+    ensures { λ r. ⌜ ((j : ℕ) → j < windows → getD r j 0 ≡ sum seats (λ i. cell (now (grid .entry)) i j)) ⌝ }
+{
+    let mut sums = [0u32; 24];
+    for i in 0..seats {
+        let next = add_row(sums, &grid[i], windows);
+        sums = next;
     }
     sums
 }
@@ -62,28 +82,13 @@ impl Sheet {
         Sheet { rows: [row; 32] }
     }
 
-    // The credits of a seat in a window.
-    pub fn cell(self, seat: usize, window: usize) -> u16
-        requires { ⌜ (seat < 32) × (window < 24) ⌝ }
-        ensures { λ r. ⌜ r ≡ credit self seat window ⌝ }
-    {
-        let row = self.rows[seat];
-        row.cells[window]
-    }
-
     // Each window's cells together.
     pub fn placed(self, seats: usize, windows: usize) -> [u32; 24]
         requires { ⌜ (seats ≤ 32) × (windows ≤ 24) ⌝ }
         ensures { λ r. ⌜ ((j : ℕ) → j < windows → getD r j 0 ≡ sum seats (λ i. credit self i j)) ⌝ }
     {
-        let mut sums = [0u32; 24];
-        for i in 0..seats {
-            let row = self.rows[i];
-            let cells = row.cells;
-            let next = add_row(sums, cells, windows);
-            sums = next;
-        }
-        sums
+        let grid = self.to_grid();
+        placed(&grid, seats, windows)
     }
 
     // The sheet after a move. The giver and the taker may be one seat, and then nothing changes.

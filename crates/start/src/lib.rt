@@ -44,9 +44,9 @@ fn scale(grid: &mut Caps, residual: &mut Residual, caps: &Caps, phase: Phase)
 }
 
 // Evens out the seats of a filled grid, in bulk first and then down to single credits. What is filled stays filled.
-pub fn even_out(grid: &mut Caps, caps: Caps, t: Terms)
+pub fn even_out(grid: &mut Caps, caps: &Caps, t: Terms)
     requires { ⌜ (t .seats ≤ 32) × (t .windows ≤ 24) ⌝ }
-    ensures { λ _. ⌜ Keeps (t .seats) (t .windows) caps (now (grid .entry)) (now (grid .exit)) ⌝ }
+    ensures { λ _. ⌜ Keeps (t .seats) (t .windows) (now (caps .entry)) (now (grid .entry)) (now (grid .exit)) ⌝ }
 {
     let mut phase = Phase {
         seats: t.seats,
@@ -54,7 +54,7 @@ pub fn even_out(grid: &mut Caps, caps: Caps, t: Terms)
         unit: 64,
     };
     let mut residual = residual::ranks_of(grid, t);
-    scale(grid, &mut residual, &caps, phase);
+    scale(grid, &mut residual, caps, phase);
     phase.unit = 1;
-    scale(grid, &mut residual, &caps, phase);
+    scale(grid, &mut residual, caps, phase);
 }

@@ -75,7 +75,7 @@ fn heights_of(grid: &Caps, t: Terms) -> [u32; 32]
     let windows = t.windows;
     let mut heights = t.bases;
     for i in 0..seats {
-        let total = sheet::row_total(grid[i], windows);
+        let total = sheet::row_total(&grid[i], windows);
         heights[i] = std::num::wrapping_add_u32(heights[i], total);
     }
     heights

@@ -9,18 +9,16 @@ use native.Mathlib.Nat.{mul-le-mul}
 use native.Mathlib.Omega.{arith}
 use lib.ListN.{length, drop, length-append}
 use Rattle.model.specs.Book.{Grid}
-use Rattle.sheet.specs.Sheets.{gridOf}
 use Rattle.dayfile.specs.Layout.{contentsEnd}
 use Rattle.dayfile.specs.File.{Part, bytesOf, contents, bodies, fieldsOf, assemble, flat, flatIf, optPart, optParts, partsOf, fileOf}
 use Rattle.dayfile.specs.Table.{known}
-use Rattle.dayfile.specs.Memory.{sized, sizedGrid, bookIn, sheetIn, dayBook, daySheet, fileIn, front}
+use Rattle.dayfile.specs.Memory.{sized, sizedGrid, bookIn, sheetIn, fileWith, front}
 use Rattle.dayfile.specs.declared.Book as Memory
-use Rattle.dayfile.specs.declared.Day.{Day}
 use Rattle.dayfile.proofs.Tables.{sized-length}
 use Rattle.dayfile.proofs.Fields.{length-bytes}
 use Rattle.dayfile.proofs.Grids.{flat-append, sized-flat-length}
 use Rattle.store.specs.Stores.{Room, Put, sizeIf, fieldsIf, total, count, size, entry, entries, sizes, entriesAt}
-use Rattle.store.specs.Stores.{head, slot, slotsOf, slotsIn, listFields, Of}
+use Rattle.store.specs.Stores.{head, slot, slotsOf, listFields}
 use Rattle.store.specs.declared.contents.Slot.{Slot}
 use Rattle.store.proofs.Storing.{Begun, begun-first, begun-room, begun-next, begun-end, put-as, put-end, put-front, room-as, grid-if}
 
@@ -140,18 +138,21 @@ slots-fit b t e h =
     let s = size-most t (b .seats * b .windows) in
     let small : sizes (slotsOf b t) < 30000 = omega (arith, h) in (ap length e, subst (λ (xs : List Slot). sizes xs < 30000) (sym e) small)
 
--- ---- a day
+-- ---- a book with its caps, with or without a sheet
 
 -- the parts of its file
-unfoldable pub partsIn : Day → List Part
-partsIn d = partsOf (dayBook d) (daySheet d)
+unfoldable pub partsWith : Memory.Book → Grid → Bool → Grid → List Part
+partsWith b caps t sheet = partsOf (bookIn b caps) (sheetIn b t sheet)
 
-module _ (d : Day) where
+module _ (b : Memory.Book) (caps : Grid) (t : Bool) (sheet : Grid) where
   abbrev n : ℕ
-  n = d .book .seats
+  n = b .seats
 
   abbrev m : ℕ
-  m = d .book .windows
+  m = b .windows
+
+  abbrev file : List ℕ
+  file = fileWith b caps t sheet
 
   abbrev cells : Grid → List ℕ
   cells g = flat (sizedGrid n m g)
@@ -159,40 +160,40 @@ module _ (d : Day) where
   -- its bodies: a further kind is one more
   abbrev all : List Full
   all =
-      record { at = slot 1 true n; body = sized n (d .book .classes); long = sized-length n (d .book .classes) }
-      ∷ record { at = slot 2 true m; body = sized m (d .book .supplies); long = sized-length m (d .book .supplies) }
-      ∷ record { at = slot 3 true (n * m); body = cells (gridOf (d .caps)); long = sized-flat-length n m (gridOf (d .caps)) }
-      ∷ record { at = slot 4 (d .«has_sheet») (n * m); body = cells (gridOf (d .sheet)); long = sized-flat-length n m (gridOf (d .sheet)) }
+      record { at = slot 1 true n; body = sized n (b .classes); long = sized-length n (b .classes) }
+      ∷ record { at = slot 2 true m; body = sized m (b .supplies); long = sized-length m (b .supplies) }
+      ∷ record { at = slot 3 true (n * m); body = cells caps; long = sized-flat-length n m caps }
+      ∷ record { at = slot 4 t (n * m); body = cells sheet; long = sized-flat-length n m sheet }
       ∷ []
 
-  slots-are : slots all ≡ slotsIn d
+  slots-are : slots all ≡ slotsOf b t
   unfolding slotsOf
   slots-are = refl
 
-  sheet-flat : (t : Bool) → flatIf (sheetIn (d .book) t (gridOf (d .sheet))) ≡ ifThere t (cells (gridOf (d .sheet)))
+  sheet-flat : (u : Bool) → flatIf (sheetIn b u sheet) ≡ ifThere u (cells sheet)
   sheet-flat true = refl
   sheet-flat false = refl
 
-  parts-are : partsIn d ≡ parts all
-  unfolding partsIn partsOf optParts optPart bookIn
+  parts-are : partsWith b caps t sheet ≡ parts all
+  unfolding partsWith partsOf optParts optPart bookIn
   parts-are =
       let front : List Part → List Part =
-      λ ps. record { sort = 1; body = sized n (d .book .classes) }
-      ∷ record { sort = 2; body = sized m (d .book .supplies) }
-      ∷ record { sort = 3; body = cells (gridOf (d .caps)) }
+      λ ps. record { sort = 1; body = sized n (b .classes) }
+      ∷ record { sort = 2; body = sized m (b .supplies) }
+      ∷ record { sort = 3; body = cells caps }
       ∷ ps in
-      ap (λ (o : Option (List ℕ)). front (optPart 4 o ++ [])) (sheet-flat (d .«has_sheet»))
+      ap (λ (o : Option (List ℕ)). front (optPart 4 o ++ [])) (sheet-flat t)
 
-  pub parts-count : length (partsIn d) ≡ entries (slotsIn d)
+  pub parts-count : length (partsWith b caps t sheet) ≡ entries (slotsOf b t)
   parts-count = ap length parts-are ∙ count-is all ∙ ap entries slots-are
 
   -- what is stored, run by run: first the contents, then the bodies; a further kind is one run more behind the sheet's
   abbrev stored : List (List ℕ)
   stored =
-      head (slotsIn d)
-      ∷ listFields (d .book)
-      ∷ cells (gridOf (d .caps))
-      ∷ fieldsIf (d .«has_sheet») (cells (gridOf (d .sheet)))
+      head (slotsOf b t)
+      ∷ listFields b
+      ∷ cells caps
+      ∷ fieldsIf t (cells sheet)
       ∷ []
 
   -- the first two bodies are one run
@@ -200,72 +201,68 @@ module _ (d : Day) where
   unfolding flat
   stored-are =
       ap₂ (λ (ss : List Slot) (ws : List ℕ). head ss ++ ws) slots-are
-      (flat-append (sized n (d .book .classes) ∷ sized m (d .book .supplies) ∷ []) (drop 2 stored))
+      (flat-append (sized n (b .classes) ∷ sized m (b .supplies) ∷ []) (drop 2 stored))
 
-  fields-stored : fieldsOf (length (partsIn d)) (partsIn d) ≡ head (slots all) ++ flat (runs all)
+  fields-stored : fieldsOf (length (partsWith b caps t sheet)) (partsWith b caps t sheet) ≡ head (slots all) ++ flat (runs all)
   fields-stored = ap (λ (ps : List Part). fieldsOf (length ps) ps) parts-are ∙ fields-are all
 
-  file-is : fileIn d ≡ bytesOf (flat stored)
-  unfolding fileIn fileOf assemble partsIn
+  file-is : file ≡ bytesOf (flat stored)
+  unfolding fileWith fileOf assemble partsWith
   file-is = ap bytesOf (fields-stored ∙ stored-are)
 
-  fields-long : length (fileIn d) ≡ 2 * length (flat stored)
+  fields-long : length file ≡ 2 * length (flat stored)
   fields-long = ap length file-is ∙ length-bytes (flat stored)
 
-  file-long : length (fileIn d) ≡ contentsEnd (entries (slotsIn d)) + 2 * sizes (slotsIn d)
+  file-long : length file ≡ contentsEnd (entries (slotsOf b t)) + 2 * sizes (slotsOf b t)
   file-long =
       let h = head-long (slots all) in
-      let b = bodies-long all in
+      let c = bodies-long all in
       let a = length-append (head (slots all)) (flat (runs all)) in
       let e = ap length stored-are in
       fields-long ∙ omega arith ∙ ap (λ (ss : List Slot). contentsEnd (entries ss) + 2 * sizes ss) slots-are
 
--- ---- a day, stored run by run
+-- ---- stored run by run
 
-module _ (d : Day) (l : List ℕ) (long : length (fileIn d) ≤ length l) where
-  first : Begun l 0 (flat (stored d)) 0 (stored d) l
-  first = let f = fields-long d in begun-first (stored d) (record { fits = omega arith })
+module _ (m : Memory.Book) (caps : Grid) (t : Bool) (sheet : Grid) (l : List ℕ) (long : length (fileWith m caps t sheet) ≤ length l) where
+  first : Begun l 0 (flat (stored m caps t sheet)) 0 (stored m caps t sheet) l
+  first = let f = fields-long m caps t sheet in begun-first (stored m caps t sheet) (record { fits = omega arith })
 
   -- the contents
-  module _ {ss : List Slot} (e : ss ≡ slotsIn d) where
+  module _ {ss : List Slot} (e : ss ≡ slotsOf m t) where
     pub contents-room : Room l 0 (head ss)
     contents-room = room-as (ap head (sym e)) (begun-room first)
 
-    pub contents-put : {p : ℕ} {b : List ℕ} → Put l 0 (head ss) p b → Begun l 0 (flat (stored d)) p (drop 1 (stored d)) b
+    pub contents-put : {p : ℕ} {b : List ℕ} → Put l 0 (head ss) p b
+        → Begun l 0 (flat (stored m caps t sheet)) p (drop 1 (stored m caps t sheet)) b
     contents-put c = begun-next first (put-as (ap head e) c)
 
   -- all of it is the file at the buffer's front
-  pub file-front : {r : ℕ} {b : List ℕ} → Begun l 0 (flat (stored d)) r [] b → (r ≡ length (fileIn d)) × (b ≡ front (fileIn d) l)
+  pub file-front : {r : ℕ} {b : List ℕ} → Begun l 0 (flat (stored m caps t sheet)) r [] b
+      → (r ≡ length (fileWith m caps t sheet)) × (b ≡ front (fileWith m caps t sheet) l)
   unfolding front
   file-front s =
       let all = begun-end s in
-      let n = fields-long d in
+      let n = fields-long m caps t sheet in
       let z = put-end all in (
         omega arith,
-        put-front all (omega arith) ∙ ap (λ (f : List ℕ). f ++ drop (length f) l) (sym (file-is d)),
+        put-front all (omega arith) ∙ ap (λ (f : List ℕ). f ++ drop (length f) l) (sym (file-is m caps t sheet)),
       )
 
 -- the sheet, by the number of rows that are there
-module _ (d : Day) {rows : ℕ} (e : rows ≡ sizeIf (d .«has_sheet») (d .book .seats)) where
-  sheet-rows : flat (sizedGrid rows (d .book .windows) (gridOf (d .sheet)))
-      ≡ fieldsIf (d .«has_sheet») (flat (sizedGrid (d .book .seats) (d .book .windows) (gridOf (d .sheet))))
-  sheet-rows =
-      ap (λ (k : ℕ). flat (sizedGrid k (d .book .windows) (gridOf (d .sheet)))) e
-      ∙ grid-if (d .«has_sheet») (d .book .seats) (d .book .windows) (gridOf (d .sheet))
+module _ (m : Memory.Book) (t : Bool) (sheet : Grid) {rows : ℕ} (e : rows ≡ sizeIf t (m .seats)) where
+  sheet-rows : flat (sizedGrid rows (m .windows) sheet) ≡ fieldsIf t (flat (sizedGrid (m .seats) (m .windows) sheet))
+  sheet-rows = ap (λ (k : ℕ). flat (sizedGrid k (m .windows) sheet)) e ∙ grid-if t (m .seats) (m .windows) sheet
 
-  pub sheet-room : {b : List ℕ} {p : ℕ}
-      → Room b p (fieldsIf (d .«has_sheet») (flat (sizedGrid (d .book .seats) (d .book .windows) (gridOf (d .sheet)))))
-      → Room b p (flat (sizedGrid rows (d .book .windows) (gridOf (d .sheet))))
+  pub sheet-room : {b : List ℕ} {p : ℕ} → Room b p (fieldsIf t (flat (sizedGrid (m .seats) (m .windows) sheet)))
+      → Room b p (flat (sizedGrid rows (m .windows) sheet))
   sheet-room r = room-as (sym sheet-rows) r
 
-  pub sheet-put : {b c : List ℕ} {p r : ℕ} → Put b p (flat (sizedGrid rows (d .book .windows) (gridOf (d .sheet)))) r c
-      → Put b p (fieldsIf (d .«has_sheet») (flat (sizedGrid (d .book .seats) (d .book .windows) (gridOf (d .sheet))))) r c
+  pub sheet-put : {b c : List ℕ} {p r : ℕ} → Put b p (flat (sizedGrid rows (m .windows) sheet)) r c
+      → Put b p (fieldsIf t (flat (sizedGrid (m .seats) (m .windows) sheet))) r c
   sheet-put h = put-as sheet-rows h
 
 -- the length by the book alone
-pub length-told : {b : Memory.Book} {t : Bool} {ss : List Slot} {i j : ℕ} (d : Day) → ss ≡ slotsOf b t → i ≡ entries ss → j ≡ sizes ss
-    → Of b t d → 2 + 6 * i + 2 * j ≡ length (fileIn d)
-length-told {b} {t} {ss} {i} {j} d e p q h =
-    let same : ss ≡ slotsIn d =
-    e ∙ sym (ap₂ slotsOf (h .book-is) (h .sheet-is)) in
-    ap₂ (λ (x y : ℕ). 2 + 6 * x + 2 * y) (p ∙ ap entries same) (q ∙ ap sizes same) ∙ sym (file-long d)
+pub length-told : (m : Memory.Book) (caps : Grid) (t : Bool) (sheet : Grid) {ss : List Slot} {i j : ℕ} → ss ≡ slotsOf m t → i ≡ entries ss
+    → j ≡ sizes ss → 2 + 6 * i + 2 * j ≡ length (fileWith m caps t sheet)
+length-told m caps t sheet e p q =
+    ap₂ (λ (x y : ℕ). 2 + 6 * x + 2 * y) (p ∙ ap entries e) (q ∙ ap sizes e) ∙ sym (file-long m caps t sheet)

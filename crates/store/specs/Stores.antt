@@ -1,11 +1,9 @@
 -- Fields stored into a buffer, and the contents of a file by slots: one for each part that a file can have, in the order of their kinds.
 use mathlib.Core.Bool.{Bool, true, false}
 use mathlib.Core.List.{List, [], _∷_, _++_}
-use mathlib.Core.Path.{_≡_}
 use Prim.Native.Nat.{ℕ, _+_, _*_, _≤_}
 use lib.ListN.{length}
 use Rattle.lists.specs.Buffers.{Stored}
-use Rattle.sheet.specs.declared.Sheet.{Sheet}
 use Rattle.dayfile.specs.Layout.{contentsEnd}
 use Rattle.dayfile.specs.File.{bytesOf, flat}
 use Rattle.dayfile.specs.Memory.{sized}
@@ -84,12 +82,3 @@ slotsIn d = slotsOf (d .book) (d .«has_sheet»)
 -- the bodies that are plain lists, one after another: the classes and the supplies
 abbrev pub listFields : Memory.Book → List ℕ
 listFields b = flat (sized (b .seats) (b .classes) ∷ sized (b .windows) (b .supplies) ∷ [])
-
--- a day of these parts
-abbrev pub dayWith : Memory.Book → Sheet → Bool → Sheet → Day
-dayWith b caps hasSheet sheet = record { book = b; caps = caps; «has_sheet» = hasSheet; sheet = sheet }
-
--- a day of this book, with or without a sheet
-pub record Of (b : Memory.Book) (hasSheet : Bool) (d : Day) : Type 0 where
-  pub book-is : d .book ≡ b
-  pub sheet-is : d .«has_sheet» ≡ hasSheet

@@ -2,9 +2,8 @@
 ghost use mathlib.Core.Path.{_≡_};
 ghost use Prim.Native.Nat.{_≤_};
 ghost use lib.ListN.{length};
-ghost use Rattle.dayfile.specs.Memory.{fileIn, front};
-ghost use Rattle.dayfile.specs.declared.Day.{Day};
-ghost use Rattle.store.specs.Stores.{Of, dayWith};
+ghost use Rattle.model.specs.Book.{Grid};
+ghost use Rattle.dayfile.specs.Memory.{fileWith, front};
 use bodies::put_lists;
 use contents::count_entries;
 use contents::count_fields;
@@ -13,7 +12,7 @@ use contents::slots_of;
 use dayfile::Book;
 use numbers::put_rows;
 use numbers::size_if;
-use sheet::Sheet;
+use sheet::Caps;
 
 pub mod bodies;
 pub mod contents;
@@ -22,19 +21,20 @@ pub mod numbers;
 // The length of the file of a book with or without a sheet, whatever its caps and its sheet.
 pub fn file_length(book: Book, has_sheet: bool) -> usize
     requires { ⌜ (book .seats ≤ 32) × (book .windows ≤ 24) ⌝ }
-    ensures { λ r. ⌜ ((d : Day) → Of book «has_sheet» d → r ≡ length (fileIn d)) ⌝ }
+    ensures { λ r. ⌜ ((caps sheet : Grid) → r ≡ length (fileWith book caps «has_sheet» sheet)) ⌝ }
 {
     let slots = slots_of(book, has_sheet);
     2 + 6 * count_entries(slots) + 2 * count_fields(slots)
 }
 
 // The file at the front of a buffer that is long enough. A sheet that is missing has no rows. A further kind is one more put behind it.
-// The day comes in its parts: whole, its two grids would be copied out of it once more.
-pub fn put_file(out: &mut [u8], book: Book, caps: Sheet, has_sheet: bool, sheet: Sheet) -> usize
+// The day comes in its parts, its two grids lent: whole, it would be copied.
+pub fn put_file(out: &mut [u8], book: Book, caps: &Caps, has_sheet: bool, sheet: &Caps) -> usize
     requires { ⌜ (book .seats ≤ 32) × (book .windows ≤ 24) ⌝ }
-    requires { ⌜ length (fileIn (dayWith book caps «has_sheet» sheet)) ≤ length (now out) ⌝ }
-    ensures length { λ r. ⌜ r ≡ length (fileIn (dayWith book caps «has_sheet» sheet)) ⌝ }
-    ensures file { λ r. ⌜ now (out .exit) ≡ front (fileIn (dayWith book caps «has_sheet» sheet)) (now (out .entry)) ⌝ }
+    requires { ⌜ length (fileWith book (now caps) «has_sheet» (now sheet)) ≤ length (now out) ⌝ }
+    ensures length { λ r. ⌜ r ≡ length (fileWith book (now (caps .entry)) «has_sheet» (now (sheet .entry))) ⌝ }
+    ensures file { λ r. ⌜ now (out .exit) ≡
+        front (fileWith book (now (caps .entry)) «has_sheet» (now (sheet .entry))) (now (out .entry)) ⌝ }
 {
     let rows = size_if(has_sheet, book.seats);
     let p = put_contents(out, slots_of(book, has_sheet));

@@ -3,11 +3,10 @@ ghost use mathlib.Core.Path.{_≡_};
 ghost use mathlib.Core.List.{[], _∷_};
 ghost use Prim.Native.Nat.{_<_, _≤_};
 ghost use lib.ListN.{getD};
-ghost use Rattle.sheet.specs.Sheets.{gridOf};
 ghost use Rattle.dayfile.specs.File.{flat};
 ghost use Rattle.dayfile.specs.Memory.{sized, sizedGrid};
 ghost use Rattle.store.specs.Stores.{Room, Put, sizeIf};
-use sheet::Sheet;
+use sheet::Caps;
 
 // A field at an offset.
 pub fn put(buf: &mut [u8], at: usize, x: usize) -> usize
@@ -54,16 +53,14 @@ pub fn put_all(buf: &mut [u8], at: usize, src: &[u16], n: usize) -> usize
 }
 
 // The first n rows of a grid, m cells of each.
-pub fn put_rows(buf: &mut [u8], at: usize, grid: Sheet, n: usize, m: usize) -> usize
-    requires { ⌜ (n ≤ 32) × Room (now buf) at (flat (sizedGrid n m (gridOf grid))) ⌝ }
-    ensures { λ r. ⌜ Put (now (buf .entry)) at (flat (sizedGrid n m (gridOf grid))) r (now (buf .exit)) ⌝ }
+pub fn put_rows(buf: &mut [u8], at: usize, grid: &Caps, n: usize, m: usize) -> usize
+    requires { ⌜ (n ≤ 32) × Room (now buf) at (flat (sizedGrid n m (now grid))) ⌝ }
+    ensures { λ r. ⌜ Put (now (buf .entry)) at (flat (sizedGrid n m (now (grid .entry)))) r (now (buf .exit)) ⌝ }
 {
     let mut p = at;
     let mut i = 0;
     while i < n {
-        let row = grid.rows[i];
-        let cells = row.cells;
-        p = put_all(buf, p, &cells, m);
+        p = put_all(buf, p, &grid[i], m);
         i += 1;
     }
     p

@@ -16,9 +16,6 @@ use Rattle.dayfile.specs.Memory.{bookIn, cellsIn}
 use Rattle.dayfile.specs.declared.Book as Memory
 use Rattle.dayfile.proofs.Search.{same-search}
 use Rattle.dayfile.proofs.Held.{seats-in, windows-in}
-use Rattle.sheet.specs.declared.Sheet.{Sheet}
-use Rattle.sheet.specs.Sheets.{credit, gridOf}
-use Rattle.sheet.proofs.Cells.{credit-cell}
 use Rattle.waste.specs.Wastes.{lowestBelow, Tells}
 use Rattle.waste.specs.declared.Waste.the-variants.{Nowhere, At}
 use Rattle.dayfile.proofs.Used.{cell-in, cap-in, supply-in}
@@ -30,26 +27,21 @@ wastes cells caps given supplies n j = ltb (getD given j 0) (getD supplies j 0) 
 module _
     (m : Memory.Book)
     (caps : Grid)
-    (sheet : Sheet)
-    (given : List ℕ)
-    (given-is : (j : ℕ) → j < m .windows → getD given j 0 ≡ sum (m .seats) (λ i. credit sheet i j))
     (cells : Grid)
-    (cells-are : cells ≡ gridOf sheet)
+    (given : List ℕ)
+    (given-is : (j : ℕ) → j < m .windows → getD given j 0 ≡ sum (m .seats) (λ i. cell cells i j))
   where
-    cell-is : (i j : ℕ) → i < m .seats → j < m .windows → cell (cellsIn m sheet) i j ≡ cell cells i j
-    cell-is i j li lj = cell-in m sheet i j li lj ∙ credit-cell sheet i j ∙ ap (λ (g : Grid). cell g i j) (sym cells-are)
-
-    below-is : (j : ℕ) → j < m .windows → seatBelow (bookIn m caps) (cellsIn m sheet) j ≡ lowestBelow cells caps (m .seats) j
+    below-is : (j : ℕ) → j < m .windows → seatBelow (bookIn m caps) (cellsIn m cells) j ≡ lowestBelow cells caps (m .seats) j
     unfolding seatBelow lowestBelow
     below-is j l =
-        rw (seats-in m caps) (same-search _ _ (m .seats) (λ i k. ap₂ ltb (cell-is i j k l) (cap-in m caps i j k l)))
+        rw (seats-in m caps) (same-search _ _ (m .seats) (λ i k. ap₂ ltb (cell-in m cells i j k l) (cap-in m caps i j k l)))
 
-    placed-is : (j : ℕ) → j < m .windows → placed (instanceOf (bookIn m caps)) (cell (cellsIn m sheet)) j ≡ getD given j 0
+    placed-is : (j : ℕ) → j < m .windows → placed (instanceOf (bookIn m caps)) (cell (cellsIn m cells)) j ≡ getD given j 0
     unfolding instanceOf
     placed-is j l =
-        rw (seats-in m caps) (sum-eq (m .seats) _ _ (λ i k. cell-in m sheet i j k l) ∙ sym (given-is j l))
+        rw (seats-in m caps) (sum-eq (m .seats) _ _ (λ i k. cell-in m cells i j k l) ∙ sym (given-is j l))
 
-    window-is : wastedWindow (bookIn m caps) (cellsIn m sheet) ≡ lowest (m .windows) (wastes cells caps given (m .supplies) (m .seats))
+    window-is : wastedWindow (bookIn m caps) (cellsIn m cells) ≡ lowest (m .windows) (wastes cells caps given (m .supplies) (m .seats))
     unfolding wastedWindow
     window-is =
         rw (windows-in m caps)
@@ -58,10 +50,10 @@ module _
 
     -- the first window that is wasted, and its seat
     pub wasted-at : (j i : ℕ) → some j ≡ lowest (m .windows) (wastes cells caps given (m .supplies) (m .seats)) → j < m .windows →
-        lowestBelow cells caps (m .seats) j ≡ some i → Tells (bookIn m caps) (cellsIn m sheet) (At j i)
+        lowestBelow cells caps (m .seats) j ≡ some i → Tells (bookIn m caps) (cellsIn m cells) (At j i)
     wasted-at j i first l p = (window-is ∙ sym first, below-is j l ∙ p)
 
     -- no window is
     pub nowhere : none ≡ lowest (m .windows) (wastes cells caps given (m .supplies) (m .seats)) →
-        Tells (bookIn m caps) (cellsIn m sheet) Nowhere
+        Tells (bookIn m caps) (cellsIn m cells) Nowhere
     nowhere e = window-is ∙ sym e

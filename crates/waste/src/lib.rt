@@ -6,7 +6,7 @@ ghost use Rattle.waste.specs.Wastes.{lowestBelow, Tells};
 use dayfile::Book;
 use dayfile::Found;
 use sheet::Caps;
-use sheet::Sheet;
+use sheet::placed;
 
 // The lowest window that is wasted, and the lowest seat below its cap there, counted from 0.
 pub enum Waste {
@@ -30,19 +30,18 @@ fn seat_below(cells: &Caps, caps: &Caps, seats: usize, window: usize) -> Found
 }
 
 // Paper 01's mark 1, or that the sheet is not wasteful.
-pub fn wasted(book: Book, caps: Caps, sheet: Sheet) -> Waste
+pub fn wasted(book: Book, caps: &Caps, cells: &Caps) -> Waste
     requires { ⌜ (book .seats ≤ 32) × (book .windows ≤ 24) ⌝ }
-    ensures { λ r. ⌜ Tells (bookIn book caps) (cellsIn book sheet) r ⌝ }
+    ensures { λ r. ⌜ Tells (bookIn book (now (caps .entry))) (cellsIn book (now (cells .entry))) r ⌝ }
 {
     let supplies = book.supplies;
     let seats = book.seats;
     let windows = book.windows;
-    let placed = sheet.placed(seats, windows);
-    let cells = sheet.to_grid();
+    let placed = placed(cells, seats, windows);
     let mut window = 0;
     while window < windows {
         if placed[window] < supplies[window] as u32 {
-            if let Found::At(seat) = seat_below(&cells, &caps, seats, window) {
+            if let Found::At(seat) = seat_below(cells, caps, seats, window) {
                 return Waste::At { window, seat };
             }
         }

@@ -18,7 +18,7 @@ use Rattle.dayfile.specs.File.{Part, assemble, flat, partsOf, fileOf}
 use Rattle.dayfile.specs.Table.{Line, Refusal, line, refuse, firstOf, within, offset, sizeRight, outside}
 use Rattle.dayfile.specs.Table.{line7, line8, line10, line11, line12, line16}
 use Rattle.dayfile.specs.Table.{valueLines, optionLines, bufferLines, writeLines}
-use Rattle.dayfile.specs.Memory.{sized, sizedGrid, bookIn, fileIn, front, Writes}
+use Rattle.dayfile.specs.Memory.{sized, sizedGrid, bookIn, fileWith, fileIn, front, Writes}
 use Rattle.dayfile.specs.declared.Book as Memory
 use Rattle.dayfile.specs.declared.Day.{Day}
 use Rattle.dayfile.specs.declared.Written as Written
@@ -32,7 +32,7 @@ use Rattle.dayfile.proofs.Grids.{sized-flat-length}
 use Rattle.dayfile.proofs.Container.{nth, before, start-is, size-is, body-is}
 use Rattle.dayfile.proofs.Sound.{kept}
 use Rattle.store.specs.Stores.{entries, slotsIn}
-use Rattle.store.proofs.Files.{partsIn, parts-count}
+use Rattle.store.proofs.Files.{partsWith, parts-count}
 use Rattle.writer.specs.Values.{outsideIn}
 
 -- ---- counts and sizes
@@ -86,10 +86,10 @@ module _ (first : ℕ) (ps : List Part) (told : entriesIn first ≡ length ps) w
 
 module _ (d : Day) where
   abbrev ps : List Part
-  ps = partsIn d
+  ps = partsWith (d .book) (gridOf (d .caps)) (d .«has_sheet») (gridOf (d .sheet))
 
   abbrev f : List ℕ
-  f = assemble (length (partsIn d)) (partsIn d)
+  f = assemble (length ps) ps
 
   abbrev n : ℕ
   n = d .book .seats
@@ -111,7 +111,7 @@ module _ (d : Day) where
     third : before ps 2 ≡ n + m
 
   three : Three
-  unfolding partsIn partsOf bookIn
+  unfolding partsWith partsOf bookIn
   three =
       let l = sized-length n (d .book .classes) in
       let k = sized-length m (d .book .supplies) in
@@ -126,7 +126,7 @@ module _ (d : Day) where
       }
 
   file-is : f ≡ fileIn d
-  unfolding fileIn fileOf partsIn
+  unfolding fileWith fileOf partsWith
   file-is = refl
 
   size-of : (e : ℕ) → e < 3 → (xs : List ℕ) (k : ℕ) → nth ps e .body ≡ xs → length xs ≡ k → size f e ≡ 2 * k
@@ -164,7 +164,7 @@ module _ (d : Day) where
   search-body : (e : ℕ) → e < 3 → (xs : List ℕ) (k at low high : ℕ) → nth ps e .body ≡ xs → k ≡ length xs
       → at ≡ contentsEnd (entries (slotsIn d)) + 2 * before ps e → outside f (start f e) k low high ≡ outsideIn xs at low high
   search-body e h xs k at low high q l p =
-      let c = parts-count d in
+      let c = parts-count (d .book) (gridOf (d .caps)) (d .«has_sheet») (gridOf (d .sheet)) in
       let t = three in
       body-search (length ps) ps refl e (omega (arith, t .many)) k at low high (l ∙ ap length (sym q)) (omega arith)
       ∙ ap (λ (ys : List ℕ). outsideIn ys at low high) q

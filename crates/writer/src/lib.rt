@@ -20,6 +20,8 @@ pub fn write(out: &mut [u8], day: Day) -> Written
     if out.len() < n {
         return Written::Refused { number: 16, at: n };
     }
-    put_file(out, day.book, day.caps, day.has_sheet, day.sheet);
+    let caps = day.caps.to_grid();
+    let sheet = day.sheet.to_grid();
+    put_file(out, day.book, &caps, day.has_sheet, &sheet);
     Written::Whole { length: n }
 }

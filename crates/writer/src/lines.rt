@@ -3,13 +3,14 @@
 ghost use mathlib.Core.Path.{_≡_};
 ghost use mathlib.Core.List.{[], _∷_, _++_};
 ghost use Prim.Native.Nat.{_+_, _*_, _<_, _≤_};
+ghost use Rattle.model.specs.Book.{Grid};
 ghost use Rattle.sheet.specs.Sheets.{gridOf};
 ghost use Rattle.dayfile.specs.Layout.{contentsEnd};
 ghost use Rattle.dayfile.specs.File.{flat};
 ghost use Rattle.dayfile.specs.Table.{line, line7, line8, valueLines, optionLines, firstOf};
-ghost use Rattle.dayfile.specs.Memory.{found, refused, sized, sizedGrid, fileIn};
+ghost use Rattle.dayfile.specs.Memory.{found, refused, sized, sizedGrid, fileWith, fileIn};
 ghost use Rattle.dayfile.specs.declared.Day.{Day};
-ghost use Rattle.store.specs.Stores.{entries, slotsIn, Of};
+ghost use Rattle.store.specs.Stores.{entries, slotsIn};
 ghost use Rattle.writer.specs.Values.{outsideIn};
 use dayfile::Book;
 use dayfile::Check;
@@ -88,7 +89,7 @@ fn check_values(book: Book, caps: Sheet, at: usize) -> Check
 // The lines of the parts that may be missing: paper 01 has none.
 fn check_options(_book: Book, _has_sheet: bool) -> Check
     requires { ⌜ («_book» .seats ≤ 32) × («_book» .windows ≤ 24) ⌝ }
-    ensures { λ r. ⌜ ((d : Day) → Of «_book» «_has_sheet» d → refused r ≡ firstOf (optionLines (fileIn d))) ⌝ }
+    ensures { λ r. ⌜ ((caps sheet : Grid) → refused r ≡ firstOf (optionLines (fileWith «_book» caps «_has_sheet» sheet))) ⌝ }
 {
     Check::Sound
 }

@@ -4,8 +4,8 @@ use Rattle.engine.proofs.Starting.{zeros-feasible}
 use Rattle.engine.proofs.settled.Statement.{statement}
 use Rattle.engine.proofs.settled.Tie as tie
 
-settled-grid-requires : tie.Need-settled-grid-requires
-settled-grid-requires c κs = (c .pre, zeros-feasible (c .args .t) (c .args .caps) 32 24)
+settled-from-requires : tie.Need-settled-from-requires
+settled-from-requires c κs = (c .pre, zeros-feasible (c .args .t) (c .args .caps .now) 32 24)
 
 pub settled-spec : {M : Type 1} → statement M
-settled-spec = tie.close (tie.spec settled-grid-requires (λ c. search needs))
+settled-spec = tie.close (tie.spec settled-from-requires (λ c. search needs))

@@ -11,19 +11,19 @@ use Rattle.exchange.proofs.below.Statement.{statement}
 use Rattle.exchange.proofs.below.Tie as tie
 
 abbrev Inv-loop : tie.InvT-loop
-Inv-loop windows a b set₀ w₀ set w = (w ≤ windows) × Collects w (λ u. getD a u 0 < getD b u 0) set
+Inv-loop a b windows set₀ w₀ set w = (w ≤ windows) × Collects w (λ u. getD a u 0 < getD b u 0) set
 
 abbrev μ-loop : tie.MeasureT-loop
-μ-loop windows a b set₀ w₀ set w = windows - w
+μ-loop a b windows set₀ w₀ set w = windows - w
 
 loop-holds : tie.Need-loop-holds Inv-loop μ-loop
 loop-holds c = (search needs, collect-first _)
 
 loop-again : tie.Need-loop-again Inv-loop μ-loop
 loop-again c =
-    let at = c .before .before .loop in
-    let start = c .before .before .before in
-    let P : ℕ → Type 0 = λ u. getD (start .args .t1) u 0 < getD (start .args .t2) u 0 in (
+    let at = c .before .before .before .before .loop in
+    let start = c .before .before .before .before .before in
+    let P : ℕ → Type 0 = λ u. getD (start .args .a .now) u 0 < getD (start .args .b .now) u 0 in (
       search needs,
       ⊎-elim
           (λ t. rw (t .2) (collect-in P (at .w) (at .set) (at .inv .1) _ (t .0 .taken) (t .1 .ensures)))

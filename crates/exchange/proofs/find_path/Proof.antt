@@ -1,15 +1,13 @@
 -- `exchange::find_path` meets its contract. Each turn works out one seat: its height, where it has room, and what it holds.
 use borrow.Author.Needs.{needs}
 use mathlib.Core.Path.{_≡_, refl}
+use mathlib.Core.List.{[]}
 use mathlib.Core.Logic.{_↔_}
 use Prim.Native.Nat.{ℕ, _-_}
 use native.Mathlib.Omega.{arith}
 use lib.ListN.{length, getD}
 use Rattle.lists.proofs.Arrays.{Filled, filled-first, filled-next}
 use Rattle.masks.specs.Sets.{In}
-use Rattle.sheet.specs.Sheets.{credit, noRow}
-use Rattle.sheet.proofs.Shapes.{credit-small}
-use Rattle.sheet.proofs.Sums.{sum-bound}
 use Rattle.reach.specs.declared.Graph.{Graph}
 use Rattle.reach.specs.Graphs.{Rows}
 use Rattle.reach.proofs.Collect.{rows-end}
@@ -21,44 +19,40 @@ use Rattle.exchange.proofs.find_path.Statement.{statement}
 use Rattle.exchange.proofs.find_path.Tie as tie
 
 abbrev Inv-loop : tie.InvT-loop
-Inv-loop sheet caps seats windows bases weights positions heights₀ rooms₀ holders₀ seat₀ heights rooms holders seat =
-    Known sheet seats windows bases heights₀ seat heights
-    × (Filled (λ k set. (w : ℕ) → In w set ↔ HasRoom sheet caps windows k w) 0 32 seats rooms₀ seat rooms
-    × ((length holders ≡ 24) × HoldersOf sheet windows seat holders))
+Inv-loop grid caps seats windows bases weights positions heights₀ rooms₀ holders₀ seat₀ heights rooms holders seat =
+    Known grid seats windows bases heights₀ seat heights
+    × (Filled (λ k set. (w : ℕ) → In w set ↔ HasRoom grid caps windows k w) 0 32 seats rooms₀ seat rooms
+    × ((length holders ≡ 24) × HoldersOf grid windows seat holders))
 
 abbrev μ-loop : tie.MeasureT-loop
-μ-loop sheet caps seats windows bases weights positions heights₀ rooms₀ holders₀ seat₀ heights rooms holders seat = seats - seat
+μ-loop grid caps seats windows bases weights positions heights₀ rooms₀ holders₀ seat₀ heights rooms holders seat = seats - seat
 
 loop-holds : tie.Need-loop-holds Inv-loop μ-loop
 loop-holds c =
     let a = c .before .before .before .args in
-    (filled-first refl (search needs), (filled-first refl (search needs), (refl, held-first (a .t1) _ 24)))
+    (filled-first refl (search needs), (filled-first refl (search needs), (refl, held-first (a .grid .now) _ 24)))
 
 add-heights : tie.Need-add-heights Inv-loop μ-loop
 add-heights c =
-    let at = c .before .before .before .before in
+    let at = c .before .before .before in
     let start = at .before .before .before .before in
-    let a = start .args in
-    let seat = at .loop .seat in
-    let small = credit-small (a .t1) _ (start .good .0) seat in
-    let cells = sum-bound 65535 (a .t .windows) (λ j. credit (a .t1) seat j) (λ j lj. omega (arith, small j)) in
     let ranged = start .pre .0 .ranged in
-    let base = ranged .bases-most seat (search needs) in
-    omega (arith, cells, base, c .row-total .ensures, ranged .windows-most)
+    let base = ranged .bases-most (at .loop .seat) (search needs) in
+    omega (arith, base, c .row-total .ensures .1, ranged .windows-most)
 
 loop-again : tie.Need-loop-again Inv-loop μ-loop
 loop-again c =
-    let total = c .before .before .before in
-    let at = total .before .before .before .before .loop in
-    let a = total .before .before .before .before .before .before .before .before .args in
-    let cells = getD (a .t1 .rows) (at .seat) noRow .cells in
+    let total = c .before .before .before .before .before in
+    let at = total .before .before .before .loop in
+    let a = total .before .before .before .before .before .before .before .args in
+    let cells = getD (a .grid .now) (at .seat) [] in
     let more = c .with-holder .result in (
-      filled-next (at .inv .0) (search needs) (omega (arith, total .row-total .ensures)),
+      filled-next (at .inv .0) (search needs) (omega (arith, total .row-total .ensures .0)),
       (
-        filled-next (at .inv .1 .0) (search needs) (c .before .below .ensures),
+        filled-next (at .inv .1 .0) (search needs) (c .before .before .below .ensures),
         (
           search needs,
-          held-next (a .t1) (a .t .windows) (at .seat) (at .holders) more cells (at .inv .1 .1 .1) (λ w. refl) (c .with-holder .ensures),
+          held-next (a .grid .now) (a .t .windows) (at .seat) (at .holders) more cells (at .inv .1 .1 .1) (λ w. refl) (c .with-holder .ensures),
         ),
       ),
     )
@@ -69,9 +63,9 @@ find-requires c κs =
     let start = c .before .before .before .before .before in
     let a = start .args in
     let p = start .pre in
-    let scores = scored (a .t1) (a .t2) (a .t) (at .seat) _ (at .heights) (search needs) (at .inv .0) in (
+    let scores = scored (a .grid .now) (a .caps .now) (a .t) (at .seat) _ (at .heights) (search needs) (at .inv .0) in (
       p .0 .ranged .seats-most,
-      bounded (a .t) (a .t2) (a .t1) _ (p .0) (p .1) (scores _ _ (told-in (a .t) (a .t2)) (shows-itself (a .t) (a .t1))),
+      bounded (a .t) (a .caps .now) (a .grid .now) _ (p .0) (p .1) (scores _ _ (told-in (a .t) (a .caps .now)) (shows-itself (a .t) (a .grid .now))),
     )
 
 returns : tie.Need-returns Inv-loop μ-loop
@@ -79,16 +73,16 @@ returns c =
     let at = c .before .before .loop in
     let start = c .before .before .before .before .before .before in
     let a = start .args in
-    let scores = scored (a .t1) (a .t2) (a .t) (at .seat) _ (at .heights) (search needs) (at .inv .0) in
+    let scores = scored (a .grid .now) (a .caps .now) (a .t) (at .seat) _ (at .heights) (search needs) (at .inv .0) in
     let e : at .seat ≡ a .t .seats = omega (arith, at .inv .0 .within) in
-    let rooms : Rows (a .t .seats) (HasRoom (a .t1) (a .t2) (a .t .windows)) (at .rooms) = rows-end (at .inv .1 .0) (search needs) in
+    let rooms : Rows (a .t .seats) (HasRoom (a .grid .now) (a .caps .now) (a .t .windows)) (at .rooms) = rows-end (at .inv .1 .0) (search needs) in
     let graph : Graph = record { rooms = at .rooms; holders = at .holders } in
-    let moves = drawn (a .t1) (a .t2) (a .t) graph rooms (rw e at (at .inv .1 .1 .1)) in
-    finds-right (a .t) (a .t2) (a .t1) (start .pre .0 .ranged) _ graph scores moves (c .find .result .kind) _ (c .find .ensures)
+    let moves = drawn (a .grid .now) (a .caps .now) (a .t) graph rooms (rw e at (at .inv .1 .1 .1)) in
+    finds-right (a .t) (a .caps .now) (a .grid .now) (start .pre .0 .ranged) _ graph scores moves (c .find .result .kind) _ (c .find .ensures)
 
 pub find-path-spec : {M : Type 1} → statement M
 find-path-spec =
     tie.close (tie.spec Inv-loop μ-loop loop-holds (λ c. search needs) (λ c. search needs) (λ c. search needs) (λ c. search needs)
     (λ c κs. search needs) add-heights (λ c. search needs) (λ c. search needs) (λ c. search needs) (λ c. search needs)
-    (λ c κs. search needs) (λ c. search needs) (λ c. search needs) (λ c κs. search needs) (λ c. search needs) (λ c. search needs) loop-again
-    find-requires returns)
+    (λ c. search needs) (λ c. search needs) (λ c κs. search needs) (λ c. search needs) (λ c. search needs) (λ c. search needs)
+    (λ c. search needs) (λ c κs. search needs) (λ c. search needs) (λ c. search needs) loop-again find-requires returns)

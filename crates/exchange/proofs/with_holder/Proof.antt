@@ -10,21 +10,21 @@ use Rattle.exchange.proofs.with_holder.Statement.{statement}
 use Rattle.exchange.proofs.with_holder.Tie as tie
 
 abbrev Inv-loop : tie.InvT-loop
-Inv-loop windows seat cells all₀ w₀ all w = (w ≤ windows) × ((length all ≡ 24) × Added all₀ cells seat w all)
+Inv-loop cells windows seat all₀ w₀ all w = (w ≤ windows) × ((length all ≡ 24) × Added all₀ cells seat w all)
 
 abbrev μ-loop : tie.MeasureT-loop
-μ-loop windows seat cells all₀ w₀ all w = windows - w
+μ-loop cells windows seat all₀ w₀ all w = windows - w
 
 loop-holds : tie.Need-loop-holds Inv-loop μ-loop
-loop-holds c = (search needs, (search needs, added-first (c .args .holders) (c .args .t2) (c .args .seat)))
+loop-holds c = (search needs, (search needs, added-first (c .args .holders) (c .args .cells .now) (c .args .seat)))
 
 loop-again : tie.Need-loop-again Inv-loop μ-loop
 loop-again c =
-    let at = c .before .before .loop in
-    let a = c .before .before .before .args in
+    let at = c .before .before .before .loop in
+    let a = c .before .before .before .before .args in
     let long = at .inv .1 .0 in
-    let has = added-in (a .holders) (a .t2) (a .seat) (at .w) (at .all) (at .inv .1 .1) in
-    let has-not = added-out (a .holders) (a .t2) (a .seat) (at .w) (at .all) (at .inv .1 .1) in
+    let has = added-in (a .holders) (a .cells .now) (a .seat) (at .w) (at .all) (at .inv .1 .1) in
+    let has-not = added-out (a .holders) (a .cells .now) (a .seat) (at .w) (at .all) (at .inv .1 .1) in
     ⊎-elim
     (λ t. rw (t .2) (search needs, (simp length-set long, has _ (omega (arith, long)) (t .0 .taken) (t .1 .ensures))))
     (λ t. rw (t .1) (search needs, (long, has-not (λ p. omega (arith, p, t .0 .left)))))

@@ -29,8 +29,8 @@ fill-window-requires c κs =
     let a = start .args in
     let w = b .loop .w in
     let l : w < a .t .windows = search needs in
-    let here = feasible-at (a .t) (a .t2) (a .grid .now) (start .pre .1 .1) w l in
-    let feasible = next-feasible (a .t .seats) (a .t2) (a .t .supplies) (a .grid .now) w (b .loop .grid) (b .loop .inv .0) here in
+    let here = feasible-at (a .t) (a .caps .now) (a .grid .now) (start .pre .1 .1) w l in
+    let feasible = next-feasible (a .t .seats) (a .caps .now) (a .t .supplies) (a .grid .now) w (b .loop .grid) (b .loop .inv .0) here in
     (search needs, (b .loop .inv .0 .filled .shape, feasible))
 
 returns : tie.Need-returns Inv-loop μ-loop

@@ -14,23 +14,26 @@ returns c = refused-marks _ _ _ _ (refuses (c .before .before .before .check-fil
 
 mark-sheet-requires : tie.Need-mark-sheet-requires
 mark-sheet-requires c κs =
-    let g = c .before in
-    let k = g .before .before .before .before in
+    let s = c .before in
+    let g = s .before in
+    let k = g .before .before .before .before .before in
     let f = k .before .before in
     let passed = passes (f .check-file .ensures) (k .enum-told .given .1) in
     let start = f .before .before .before in
     let moves = now (start .args .moves) in
-    (markable _ moves passed _ (start .pre) _ (g .to-grid .ensures), has-room _ moves passed)
+    (markable _ moves passed _ (start .pre) _ _ (g .to-grid .ensures) (s .to-grid2 .ensures), has-room _ moves passed)
 
 returns-2 : tie.Need-returns-2
 returns-2 c =
     let m = c .before .before in
-    let g = m .before .before in
-    let k = g .before .before .before .before in
+    let s = m .before .before in
+    let g = s .before in
+    let k = g .before .before .before .before .before in
     let f = k .before .before in
     let passed = passes (f .check-file .ensures) (k .enum-told .given .1) in
     let start = f .before .before .before in
-    marked-marks _ (now (start .args .moves)) passed _ (start .pre) _ (g .to-grid .ensures) _ _ (m .mark-sheet .ensures)
+    marked-marks _ (now (start .args .moves)) passed _ (start .pre) _ _ (g .to-grid .ensures) (s .to-grid2 .ensures)
+    _ _ (m .mark-sheet .ensures)
 
 pub mark-reading-spec : {M : Type 1} → statement M
 mark-reading-spec =

@@ -1,20 +1,22 @@
 -- `planner::plan` meets its contract: what is read, planned and written.
-use mathlib.Core.Path.{_≡_, refl, sym, subst, _∙_}
+use mathlib.Core.Path.{_≡_, sym, ap, subst, _∙_}
+use mathlib.Core.Bool.{true}
 use mathlib.Core.Option.{none}
 use Prim.Native.Nat.{_≤_}
 use native.Mathlib.Nat.{le-trans, le-of-eq}
 use native.Mathlib.Omega.{arith}
+use lib.ListN.{length}
 use borrow.Author.Needs.{needs}
 use denote.Ref.{now}
-use Rattle.fairness.specs.Exchange.{Settled}
-use Rattle.model.specs.Book.{Grid, instanceOf}
+use Rattle.model.specs.Book.{Grid}
 use Rattle.dayfile.specs.Bounds.{Fit}
 use Rattle.dayfile.specs.declared.Day.{Day}
 use Rattle.dayfile.specs.Table.{firstOf, readLines, plannedLength}
-use Rattle.dayfile.specs.Memory.{bookIn, dayBook}
+use Rattle.dayfile.specs.Memory.{bookIn, dayBook, fileWith}
 use Rattle.dayfile.proofs.Held.{seats-in, windows-in}
 use Rattle.dayfile.proofs.Readings.{read-refused, read-sound, read-fits}
-use Rattle.sheet.specs.Sheets.{credit, gridOf}
+use Rattle.sheet.specs.Sheets.{gridOf}
+use Rattle.planner.specs.Planning.{Planned}
 use Rattle.planner.proofs.Steps.{planned-size, planned-is, plan-refused, plan-short, plan-whole}
 use Rattle.planner.proofs.plan.Statement.{statement}
 use Rattle.planner.proofs.plan.Tie as tie
@@ -45,7 +47,8 @@ needed : (c : tie.After-file-length) →
     c .file-length .result ≡ plannedLength (dayBook d)
 needed c =
     let d = c .before .before .before .before .read .result .day in
-    c .file-length .ensures _ (record { book-is = refl; sheet-is = refl }) ∙ planned-size d (d .sheet)
+    let caps = gridOf (d .caps) in
+    c .file-length .ensures caps caps ∙ planned-size (d .book) caps caps
 
 returns-2 : tie.Need-returns-2
 returns-2 c =
@@ -59,30 +62,43 @@ planned-sheet-requires c κs =
     let read = k .before .before .before .read in
     subst (λ (g : Grid). Fit (bookIn (read .result .day .book) g)) (sym (c .to-grid .ensures)) (read-fits _ _ (read .ensures) (free k))
 
+-- the length by the caps as an array of arrays
+length-is : (c : tie.After-planned-sheet) →
+    let g = c .before in
+    let n = g .before .before in
+    let d = n .before .before .before .before .read .result .day in
+    length (fileWith (d .book) (g .to-grid .result) true (c .planned-sheet .result)) ≡ n .file-length .result
+length-is c =
+    let g = c .before in
+    let n = g .before .before in
+    let d = n .before .before .before .before .read .result .day in
+    planned-size (d .book) (g .to-grid .result) (c .planned-sheet .result)
+    ∙ ap (λ (x : Grid). plannedLength (bookIn (d .book) x)) (g .to-grid .ensures)
+    ∙ sym (needed n)
+
 put-file-requires : tie.Need-put-file-requires
 put-file-requires c κs =
-    let n = c .before .before .before .before in
+    let s = c .before in
+    let n = s .before .before .before in
     let k = n .before in
     let read = k .before .before .before .read in
-    let d = read .result .day in
-    let size = sized d (read-fits _ _ (read .ensures) (free k)) in
-    let long = planned-size d (c .before .planned-sheet .result) ∙ sym (needed n) in
-    (size, le-trans (le-of-eq long) (c .before .before .before .if1 .left))
+    let size = sized (read .result .day) (read-fits _ _ (read .ensures) (free k)) in
+    (size, le-trans (le-of-eq (length-is s)) (s .before .before .if1 .left))
 
 returns-3 : tie.Need-returns-3
 returns-3 c =
     let put = c .before .before in
     let sheet = put .before .before in
-    let n = sheet .before .before .before in
+    let g = sheet .before in
+    let n = g .before .before in
     let k = n .before in
     let read = k .before .before .before .read in
     let d = read .result .day in
-    let planned = sheet .planned-sheet .result in
-    let settled = subst (λ (g : Grid). Settled (instanceOf (bookIn (d .book) g)) (credit planned)) (sheet .before .to-grid .ensures)
-    (sheet .planned-sheet .ensures) in
-    plan-whole _ _ _ (read .ensures) (free k) _ (needed n) (sheet .before .before .if1 .left) _ _
-    (put .put-file .ensures .0 ∙ planned-size d planned ∙ sym (needed n))
-    (planned-is d planned settled _ _ (put .put-file .ensures .1))
+    let planned = planned-is (d .book) (g .to-grid .result) (sheet .planned-sheet .result) (sheet .planned-sheet .ensures)
+    _ _ (put .put-file .ensures .1) in
+    plan-whole _ _ _ (read .ensures) (free k) _ (needed n) (g .before .if1 .left) _ _
+    (put .put-file .ensures .0 ∙ length-is sheet)
+    (subst (λ (x : Grid). Planned (bookIn (d .book) x) _ _) (g .to-grid .ensures) planned)
 
 pub plan-spec : {M : Type 1} → statement M
 plan-spec =

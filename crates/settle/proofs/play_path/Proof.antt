@@ -5,7 +5,7 @@ use native.Mathlib.Omega.{arith}
 use mathlib.Core.List.{map}
 use lib.ListN.{length, take}
 use Rattle.lists.proofs.Alls.{taken-at}
-use Rattle.search.specs.Paths.{movesOf}
+use Rattle.paths.specs.Paths.{movesOf}
 use Rattle.sheet.specs.Sheets.{credit, moveOf}
 use Rattle.settle.proofs.Playing.{Played, first, this, next, last}
 use borrow.Author.Needs.{needs}
@@ -19,7 +19,7 @@ abbrev μ-loop : tie.MeasureT-loop
 μ-loop count moves after₀ k₀ after k = count - k
 
 loop-holds : tie.Need-loop-holds Inv-loop μ-loop
-loop-holds c = first _ _ (c .before .pre .1)
+loop-holds c = first _ _ (sheet-able _ _ _ _ _ (c .from-grid .ensures) (c .before .before .pre .1))
 
 -- a turn reads a move that the array has
 in-array : (c : tie.In-loop Inv-loop μ-loop) → c .before .loop .k < 31

@@ -2,23 +2,23 @@
 use borrow.Author.Needs.{needs}
 use mathlib.Core.Logic.{_≢_, ⊎-elim}
 use native.Mathlib.Omega.{arith}
-use Rattle.sheet.specs.Sheets.{credit}
+use Rattle.model.specs.Book.{cell}
 use Rattle.fairness.proofs.Theorems.{measure}
 use Rattle.instance.specs.Terms.{instanceIn}
 use Rattle.instance.proofs.Told.{told-in, shows-itself}
 use Rattle.fill.specs.Fills.{Full}
-use Rattle.search.specs.declared.Kind.the-variants.{None}
-use Rattle.search.specs.Paths.{movesOf}
+use Rattle.paths.specs.declared.Kind.the-variants.{None}
+use Rattle.paths.specs.Paths.{movesOf}
 use Rattle.exchange.specs.Paths.{Answers}
 use Rattle.settle.proofs.Turns.{turn-playable, turn-full, turn-less, turn-last}
 use Rattle.settle.proofs.settle.Statement.{statement}
 use Rattle.settle.proofs.settle.Tie as tie
 
 abbrev Inv-loop : tie.InvT-loop
-Inv-loop caps t settled₀ settled = Full (instanceIn t caps) (credit settled)
+Inv-loop grid₀ caps t grid = Full (instanceIn t caps) (cell grid)
 
 abbrev μ-loop : tie.MeasureT-loop
-μ-loop caps t settled₀ settled = measure (instanceIn t caps) (credit settled)
+μ-loop grid₀ caps t grid = measure (instanceIn t caps) (cell grid)
 
 loop-holds : tie.Need-loop-holds Inv-loop μ-loop
 loop-holds c = c .pre .1
@@ -30,10 +30,10 @@ find-path-requires c κs = (c .before .pre .0, c .loop .inv .feasible)
 answers : (c : tie.After-find-path Inv-loop μ-loop) →
     let b = c .before .before in
     let x = c .find-path .result in
-    Answers (instanceIn (b .args .t) (b .args .caps)) (credit (c .before .loop .settled)) (x .kind) (x .receiver) (x .donor) (movesOf x)
+    Answers (instanceIn (b .args .t) (b .args .caps .now)) (cell (c .before .loop .grid)) (x .kind) (x .receiver) (x .donor) (movesOf x)
 answers c =
     let b = c .before .before in
-    c .find-path .ensures .1 _ _ (told-in (b .args .t) (b .args .caps)) (shows-itself (b .args .t) (c .before .loop .settled))
+    c .find-path .ensures .1 _ _ (told-in (b .args .t) (b .args .caps .now)) (shows-itself (b .args .t) (c .before .loop .grid))
 
 -- where a turn plays a path there is one
 there : (c : tie.At-match-keys2 Inv-loop μ-loop) → c .before .find-path .result .kind ≢ None
@@ -43,28 +43,28 @@ returns : tie.Need-returns Inv-loop μ-loop
 returns c =
     let n = c .before .before in
     let b = n .before .before in
-    let last = turn-last (b .args .t) (b .args .caps) (b .pre .0) (n .before .loop .settled) (n .before .loop .inv) in
+    let last = turn-last (b .args .t) (b .args .caps .now) (b .pre .0) (n .before .loop .grid) (n .before .loop .inv) in
     last (n .find-path .result) (answers n) (c .enum-told .given .1)
 
 play-path-requires : tie.Need-play-path-requires Inv-loop μ-loop
 play-path-requires c κs =
     let n = c .before in
     let b = n .before .before in
-    let playable = turn-playable (b .args .t) (b .args .caps) (b .pre .0) (n .before .loop .settled) (n .before .loop .inv) in
+    let playable = turn-playable (b .args .t) (b .args .caps .now) (b .pre .0) (n .before .loop .grid) (n .before .loop .inv) in
     (n .find-path .ensures .0, playable (n .find-path .result) (answers n) (there c))
 
 loop-less : tie.Need-loop-less Inv-loop μ-loop
 loop-less c =
     let n = c .before .before in
     let b = n .before .before in
-    let less = turn-less (b .args .t) (b .args .caps) (b .pre .0) (n .before .loop .settled) (n .before .loop .inv) in
+    let less = turn-less (b .args .t) (b .args .caps .now) (b .pre .0) (n .before .loop .grid) (n .before .loop .inv) in
     less (n .find-path .result) (answers n) (there (c .before)) _ (c .play-path .ensures)
 
 loop-again : tie.Need-loop-again Inv-loop μ-loop
 loop-again c =
     let n = c .before .before in
     let b = n .before .before in
-    let full = turn-full (b .args .t) (b .args .caps) (b .pre .0) (n .before .loop .settled) (n .before .loop .inv) in
+    let full = turn-full (b .args .t) (b .args .caps .now) (b .pre .0) (n .before .loop .grid) (n .before .loop .inv) in
     full (n .find-path .result) (answers n) (there (c .before)) _ (c .play-path .ensures)
 
 pub settle-spec : {M : Type 1} → statement M

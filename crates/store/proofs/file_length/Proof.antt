@@ -23,7 +23,10 @@ add-result-2 c =
     record { fits = omega (arith, c .count-fields .ensures, c .before .count-entries .ensures) }
 
 returns : tie.Need-returns
-returns c = λ d h. length-told d (c .before .before .slots-of .ensures) (c .before .count-entries .ensures .0) (c .count-fields .ensures) h
+returns c caps sheet =
+    let s = c .before .before in
+    length-told (s .before .args .book) caps (s .before .args .has-sheet) sheet (s .slots-of .ensures) (c .before .count-entries .ensures .0)
+    (c .count-fields .ensures)
 
 pub file-length-spec : {M : Type 1} → statement M
 file-length-spec =

@@ -1,37 +1,33 @@
 use native.Mathlib.Omega.{arith}
 use borrow.Author.Needs.{needs}
 use denote.Ref.{now}
-use Rattle.dayfile.specs.declared.Day.{Day}
-use Rattle.store.specs.Stores.{dayWith}
 use Rattle.store.proofs.Storing.{begun-room, begun-next}
 use Rattle.store.proofs.Files.{slots-fit, contents-room, contents-put, sheet-room, sheet-put, file-front}
 use Rattle.store.proofs.put_file.Statement.{statement}
 use Rattle.store.proofs.put_file.Tie as tie
 
--- the day of the parts
-abbrev day : tie.Start → Day
-day s = dayWith (s .args .book) (s .args .caps) (s .args .has-sheet) (s .args .sheet)
-
 put-contents-requires : tie.Need-put-contents-requires
 put-contents-requires c κs =
     let s = c .before .before .before .before in
-    let d = day s in
+    let a = s .args in
     let e = c .slots-of .ensures in
-    let f = slots-fit (d .book) (d .«has_sheet») e (s .pre .0 .0, s .pre .0 .1) in
-    (f .0, contents-room d (now (s .args .out)) (s .pre .1) e, f .1)
+    let f = slots-fit (a .book) (a .has-sheet) e (s .pre .0 .0, s .pre .0 .1) in
+    (f .0, contents-room (a .book) (a .caps .now) (a .has-sheet) (a .sheet .now) (now (a .out)) (s .pre .1) e, f .1)
 
 put-lists-requires : tie.Need-put-lists-requires
 put-lists-requires c κs =
     let p = c .before .before .before in
     let s = p .before .before .before .before .before in
-    begun-room (contents-put (day s) (now (s .args .out)) (s .pre .1) (p .before .slots-of .ensures) (p .put-contents .ensures))
+    let a = s .args in
+    begun-room (contents-put (a .book) (a .caps .now) (a .has-sheet) (a .sheet .now) (now (a .out)) (s .pre .1) (p .before .slots-of .ensures) (p .put-contents .ensures))
 
 put-rows-requires : tie.Need-put-rows-requires
 put-rows-requires c κs =
     let q = c .before .before .before in
     let p = q .before .before .before .before in
     let s = p .before .before .before .before .before in
-    let b = contents-put (day s) (now (s .args .out)) (s .pre .1) (p .before .slots-of .ensures) (p .put-contents .ensures) in
+    let a = s .args in
+    let b = contents-put (a .book) (a .caps .now) (a .has-sheet) (a .sheet .now) (now (a .out)) (s .pre .1) (p .before .slots-of .ensures) (p .put-contents .ensures) in
     (s .pre .0 .0, begun-room (begun-next b (q .put-lists .ensures)))
 
 put-rows-requires-2 : tie.Need-put-rows-requires-2
@@ -40,10 +36,11 @@ put-rows-requires-2 c κs =
     let q = r .before .before .before .before in
     let p = q .before .before .before .before in
     let s = p .before .before .before .before .before in
+    let a = s .args in
     let n = p .before .before .before .size-if .ensures in
-    let b = contents-put (day s) (now (s .args .out)) (s .pre .1) (p .before .slots-of .ensures) (p .put-contents .ensures) in
+    let b = contents-put (a .book) (a .caps .now) (a .has-sheet) (a .sheet .now) (now (a .out)) (s .pre .1) (p .before .slots-of .ensures) (p .put-contents .ensures) in
     let k = begun-next (begun-next b (q .put-lists .ensures)) (r .put-rows .ensures) in
-    (omega (arith, n .1, s .pre .0 .0), sheet-room (day s) (n .0) (begun-room k))
+    (omega (arith, n .1, s .pre .0 .0), sheet-room (a .book) (a .has-sheet) (a .sheet .now) (n .0) (begun-room k))
 
 returns : tie.Need-returns
 returns c =
@@ -52,11 +49,11 @@ returns c =
     let q = r .before .before .before .before in
     let p = q .before .before .before .before in
     let s = p .before .before .before .before .before in
-    let d = day s in
+    let a = s .args in
     let n = p .before .before .before .size-if .ensures in
-    let b = contents-put d (now (s .args .out)) (s .pre .1) (p .before .slots-of .ensures) (p .put-contents .ensures) in
+    let b = contents-put (a .book) (a .caps .now) (a .has-sheet) (a .sheet .now) (now (a .out)) (s .pre .1) (p .before .slots-of .ensures) (p .put-contents .ensures) in
     let k = begun-next (begun-next b (q .put-lists .ensures)) (r .put-rows .ensures) in
-    file-front d (now (s .args .out)) (s .pre .1) (begun-next k (sheet-put d (n .0) (t .put-rows2 .ensures)))
+    file-front (a .book) (a .caps .now) (a .has-sheet) (a .sheet .now) (now (a .out)) (s .pre .1) (begun-next k (sheet-put (a .book) (a .has-sheet) (a .sheet .now) (n .0) (t .put-rows2 .ensures)))
 
 pub put-file-spec : {M : Type 1} → statement M
 put-file-spec =

@@ -13,22 +13,21 @@ use Rattle.waste.proofs.wasted.Statement.{statement}
 use Rattle.waste.proofs.wasted.Tie as tie
 
 abbrev Inv-loop : tie.InvT-loop
-Inv-loop caps supplies seats windows placed cells window₀ window =
+Inv-loop caps cells supplies seats windows placed window₀ window =
     Searching (wastes cells caps placed supplies seats) windows windows window
 
 abbrev μ-loop : tie.MeasureT-loop
-μ-loop caps supplies seats windows placed cells window₀ window = windows - window
+μ-loop caps cells supplies seats windows placed window₀ window = windows - window
 
 returns : tie.Need-returns Inv-loop μ-loop
 returns c =
     let k = c .before .before .before in
     let test = k .before .before .before in
     let l = test .before in
-    let grid = l .before .before in
+    let placed = l .before .before .placed in
     let found = at-line (k .seat-below .ensures) (c .before .seat .given .1) in
     let here = search-hit (l .before .loop .inv) (l .loop-test .taken) (ap₂ _&&_ (lt-ltb _ _ (test .if1 .taken)) (ap isSome found)) in
-    wasted-at _ _ _ (grid .before .placed .result) (grid .before .placed .ensures) _ (grid .to-grid .ensures)
-    _ _ here (l .loop-test .taken) found
+    wasted-at _ _ _ (placed .result) (placed .ensures) _ _ here (l .loop-test .taken) found
 
 loop-again : tie.Need-loop-again Inv-loop μ-loop
 loop-again c =
@@ -41,9 +40,8 @@ loop-again c =
 
 returns-2 : tie.Need-returns-2 Inv-loop μ-loop
 returns-2 c =
-    let grid = c .before .before in
-    nowhere _ _ _ (grid .before .placed .result) (grid .before .placed .ensures) _ (grid .to-grid .ensures)
-    (search-end (c .before .loop .inv) (c .loop-test .left))
+    let placed = c .before .before .placed in
+    nowhere _ _ _ (placed .result) (placed .ensures) (search-end (c .before .loop .inv) (c .loop-test .left))
 
 pub wasted-spec : {M : Type 1} → statement M
 wasted-spec =

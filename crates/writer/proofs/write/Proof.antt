@@ -1,5 +1,5 @@
-use mathlib.Core.Path.{refl}
 use native.Mathlib.Omega.{arith}
+use Rattle.sheet.specs.Sheets.{gridOf}
 use Rattle.dayfile.proofs.Answers.{refuses, passes}
 use Rattle.writer.proofs.Checks.{early, no-room, enough, lines-pass}
 use borrow.Author.Needs.{needs}
@@ -21,7 +21,7 @@ returns-2 c =
     let t = l .before in
     let k = t .before .before in
     let d = k .before .before .args .day in
-    let e = l .file-length .ensures d (record { book-is = refl; sheet-is = refl }) in
+    let e = l .file-length .ensures (gridOf (d .caps)) (gridOf (d .sheet)) in
     no-room d _ (passes (k .check-day .ensures) (t .enum-told .given .1)) e (omega arith)
 
 put-file-requires : tie.Need-put-file-requires
@@ -30,7 +30,7 @@ put-file-requires c κs =
     let t = l .before in
     let k = t .before .before in
     let d = k .before .before .args .day in
-    let e = l .file-length .ensures d (record { book-is = refl; sheet-is = refl }) in
+    let e = l .file-length .ensures (gridOf (d .caps)) (gridOf (d .sheet)) in
     let p = lines-pass d (passes (k .check-day .ensures) (t .enum-told .given .1)) in ((p .0, p .1), omega arith)
 
 returns-3 : tie.Need-returns-3
@@ -42,7 +42,7 @@ returns-3 c =
     let k = t .before .before in
     let d = k .before .before .args .day in
     let p = passes (k .check-day .ensures) (t .enum-told .given .1) in
-    enough d _ _ p (l .file-length .ensures d (record { book-is = refl; sheet-is = refl })) (i .if1 .left) (f .put-file .ensures .1)
+    enough d _ _ p (l .file-length .ensures (gridOf (d .caps)) (gridOf (d .sheet))) (i .if1 .left) (f .put-file .ensures .1)
 
 pub write-spec : {M : Type 1} → statement M
 write-spec =

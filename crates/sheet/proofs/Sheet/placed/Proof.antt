@@ -1,58 +1,12 @@
--- `sheet::Sheet::placed` meets its contract. Each turn adds one seat's cells.
+-- `sheet::Sheet::placed` meets its contract: the sums of its grid.
 use borrow.Author.Needs.{needs}
-use Prim.Native.Nat.{ℕ, _-_, _≤_, _<_, zero-le}
-use mathlib.Core.Path.{_≡_, sym, _∙_}
-use native.Mathlib.Numerals.{add-one}
-use native.Mathlib.Omega.{arith}
-use lib.ListN.{getD}
-use Rattle.fairness.specs.Sums.{sum}
-use Rattle.fairness.proofs.Sums.{sum-zero, sum-suc}
-use Rattle.lists.proofs.Arrays.{zeros-at}
-use Rattle.sheet.specs.Sheets.{credit}
-use Rattle.sheet.proofs.Sums.{sum-bound}
-use Rattle.sheet.proofs.Shapes.{credit-small}
+use mathlib.Core.Path.{_∙_}
+use Rattle.sheet.proofs.Cells.{placed-is}
 use Rattle.sheet.proofs.Sheet.placed.Statement.{statement}
 use Rattle.sheet.proofs.Sheet.placed.Tie as tie
 
-abbrev Inv-loop : tie.InvT-loop
-Inv-loop seats windows self sums₀ i₀ sums i = (i ≤ seats) × ((j : ℕ) → j < windows → getD sums j 0 ≡ sum i (λ k. credit self k j))
-
-abbrev μ-loop : tie.MeasureT-loop
-μ-loop seats windows self sums₀ i₀ sums i = seats - i
-
-loop-holds : tie.Need-loop-holds Inv-loop μ-loop
-loop-holds c = (zero-le, λ j l. zeros-at 24 j ∙ sym (sum-zero _))
-
-add-row-requires : tie.Need-add-row-requires Inv-loop μ-loop
-add-row-requires c κs =
-    let test = c .before .before in
-    let l = test .before .loop in
-    let start = test .before .before in
-    let few : l .i < 32 = omega (arith, test .loop-test .taken, start .pre .0) in (
-      start .pre .1,
-      λ j h.
-          let small = sum-bound 65535 (l .i) (λ k. credit (start .args .t1) k j) (λ k b.
-          omega (arith, credit-small (start .args .t1) _ (start .good .0) k j)) in
-          omega (arith, l .inv .1 j h, small),
-    )
-
-loop-again : tie.Need-loop-again Inv-loop μ-loop
-loop-again c =
-    let l = c .before .before .before .before .loop in
-    let self = c .before .before .before .before .before .args .t1 in (
-      search needs,
-      λ j h.
-          let more = sum-suc (l .i) (λ k. credit self k j) in
-          rw (add-one (l .i)) (omega (arith, c .add-row .ensures j h, l .inv .1 j h, more)),
-    )
-
-returns : tie.Need-returns Inv-loop μ-loop
-returns c j h =
-    let l = c .before .loop in
-    let e : l .i ≡ c .before .before .args .seats = omega (arith, l .inv .0, c .loop-test .left) in
-    rw (← e) (l .inv .1 j h)
+returns : tie.Need-returns
+returns c j l = c .placed .ensures j l ∙ placed-is _ _ (c .before .before .to-grid .ensures) _ j
 
 pub placed-spec : {M : Type 1} → statement M
-placed-spec =
-    tie.close (tie.spec Inv-loop μ-loop loop-holds (λ c. search needs) (λ c. search needs) add-row-requires (λ c. search needs)
-    (λ c. search needs) loop-again returns)
+placed-spec = tie.close (tie.spec (λ c κs. search needs) (λ c κs. search needs) returns)

@@ -2,6 +2,7 @@ use mathlib.Core.Path.{refl, sym, _∙_}
 use native.Mathlib.Omega.{arith}
 use Rattle.dayfile.proofs.Answers.{refuses, passes}
 use Rattle.writer.proofs.Checks.{counts-pass, stop-counts, stop-values, go-on}
+use Rattle.sheet.specs.Sheets.{gridOf}
 use borrow.Author.Needs.{needs}
 use Rattle.writer.proofs.lines.check_day.Statement.{statement}
 use Rattle.writer.proofs.lines.check_day.Tie as tie
@@ -47,7 +48,7 @@ returns-3 c =
     let t = v .before .before in
     let k = t .before .before in
     let d = k .before .before .args .day in
-    c .check-options .ensures d (record { book-is = refl; sheet-is = refl })
+    c .check-options .ensures (gridOf (d .caps)) (gridOf (d .sheet))
     ∙ sym (go-on d (passes (k .check-counts .ensures d refl) (t .enum-told .given .1))
     (passes (v .check-values .ensures d refl refl (v .before .first-body .ensures .0)) (c .before .enum-told2 .given .1)))
 

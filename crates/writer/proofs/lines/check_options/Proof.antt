@@ -6,7 +6,7 @@ use Rattle.writer.proofs.lines.check_options.Tie as tie
 
 returns : tie.Need-returns
 unfolding optionLines
-returns c = λ d h. refl
+returns c caps sheet = refl
 
 pub check-options-spec : {M : Type 1} → statement M
 check-options-spec = tie.close (tie.spec returns)

@@ -1,4 +1,4 @@
--- `reach::fewest` meets its contract.
+-- `paths::fewest` meets its contract.
 use borrow.Author.Needs.{needs}
 use mathlib.Core.Path.{_≡_}
 use Prim.Native.Nat.{ℕ, _-_, _<_}
@@ -6,10 +6,11 @@ use native.Mathlib.Omega.{arith}
 use borrow.Author.Count.{below-more}
 use borrow.Author.Tests.{not-true, not-false}
 use Rattle.masks.specs.Sets.{bit}
 use Rattle.reach.specs.Graphs.{setAt}
-use Rattle.reach.proofs.Members.{has-in, has-out, out-zero, before-end}
-use Rattle.reach.proofs.fewest.Statement.{statement}
-use Rattle.reach.proofs.fewest.Tie as tie
+use Rattle.reach.proofs.Members.{has-in, has-out, out-zero}
+use Rattle.paths.proofs.Meeting.{before-end}
+use Rattle.paths.proofs.fewest.Statement.{statement}
+use Rattle.paths.proofs.fewest.Tie as tie
 
 abbrev Inv-loop : tie.InvT-loop
 Inv-loop l sets r₀ r = (r < 32) × ((q : ℕ) → q < r → bit (setAt sets q) l ≡ 0)

@@ -14,9 +14,10 @@ use Rattle.sheet.specs.Sheets.{moveOf}
 use Rattle.masks.specs.Sets.{bit, In}
 use Rattle.masks.proofs.Laws.{bit-lt}
 use Rattle.reach.specs.declared.Graph.{Graph}
-use Rattle.reach.specs.Graphs.{setAt, Collects, Leads, Meets, Takes, Reach, Layers, Fewest}
+use Rattle.reach.specs.Graphs.{setAt, Collects, Leads, Takes, Reach}
+use Rattle.paths.specs.Layers.{Meets, Layers, Fewest}
 use Rattle.reach.proofs.Members.{at-small}
-use Rattle.search.specs.Steps.{Drawn, Gives, GivesBy}
+use Rattle.paths.specs.Steps.{Drawn, Gives, GivesBy}
 
 -- moves that link g, in layer r, to l: each is shown by the graph, and each giver is one layer further out than its taker
 abbrev pub Walk : Graph → List ℕ → ℕ → ℕ → List Move → ℕ → Type 0

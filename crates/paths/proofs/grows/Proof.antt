@@ -1,10 +1,10 @@
--- `reach::grows` meets its contract.
+-- `paths::grows` meets its contract.
 use borrow.Author.Needs.{needs}
 use native.Mathlib.Omega.{arith}
 use borrow.Author.Tests.{ltb-false, le-ltb}
-use Rattle.reach.proofs.Members.{grown, not-grown}
-use Rattle.reach.proofs.grows.Statement.{statement}
-use Rattle.reach.proofs.grows.Tie as tie
+use Rattle.paths.proofs.Meeting.{grown, not-grown}
+use Rattle.paths.proofs.grows.Statement.{statement}
+use Rattle.paths.proofs.grows.Tie as tie
 
 returns : tie.Need-returns
 returns c =

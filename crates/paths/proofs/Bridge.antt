@@ -11,9 +11,10 @@ use Rattle.fairness.proofs.Theorems.{within-seats, within-more}
 use Rattle.masks.specs.Sets.{bit, In}
 use Rattle.masks.proofs.Laws.{bit-lt}
 use Rattle.reach.specs.declared.Graph.{Graph}
-use Rattle.reach.specs.Graphs.{setAt, Takes, Reach, Reached, Layers}
+use Rattle.reach.specs.Graphs.{setAt, Takes, Reach, Reached}
+use Rattle.paths.specs.Layers.{Layers}
 use Rattle.reach.proofs.Members.{at-small}
-use Rattle.search.specs.Steps.{Drawn}
+use Rattle.paths.specs.Steps.{Drawn}
 
 module _ (I : Instance) (S : ℕ → ℕ → ℕ) (graph : Graph) (d : Drawn I S graph) where
   takes-edge : (k l : ℕ) → Takes graph k l ↔ Edge I S k l

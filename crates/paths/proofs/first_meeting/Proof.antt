@@ -1,14 +1,15 @@
--- `reach::first_meeting` meets its contract.
+-- `paths::first_meeting` meets its contract.
 use borrow.Author.Needs.{needs}
 use Prim.Native.Nat.{ℕ, _-_, _≤_, _<_}
 use mathlib.Core.Logic.{⊎-elim}
 use native.Mathlib.Omega.{arith}
 use borrow.Author.Count.{below-more}
 use lib.ListN.{length}
-use Rattle.reach.specs.Graphs.{Meets}
-use Rattle.reach.proofs.Members.{has-in, has-out, at-small, meeting, not-meeting}
-use Rattle.reach.proofs.first_meeting.Statement.{statement}
-use Rattle.reach.proofs.first_meeting.Tie as tie
+use Rattle.paths.specs.Layers.{Meets}
+use Rattle.reach.proofs.Members.{has-in, has-out, at-small}
+use Rattle.paths.proofs.Meeting.{meeting, not-meeting}
+use Rattle.paths.proofs.first_meeting.Statement.{statement}
+use Rattle.paths.proofs.first_meeting.Tie as tie
 
 abbrev Inv-loop : tie.InvT-loop
 Inv-loop set sets other i₀ i-end i = (i ≤ length sets) × ((k : ℕ) → k < i → Meets set sets other k → ⊥)

@@ -1,4 +1,4 @@
--- `reach::column` meets its contract.
+-- `paths::column` meets its contract.
 use borrow.Author.Needs.{needs}
 use mathlib.Core.Path.{_≡_}
 use mathlib.Core.Logic.{⊎-elim}
@@ -6,11 +6,11 @@ use Prim.Native.Nat.{ℕ, _-_, _≤_}
 use native.Mathlib.Omega.{arith}
 use lib.ListN.{length}
 use Rattle.masks.specs.Sets.{In}
 use Rattle.reach.specs.Graphs.{setAt, Collects}
 use Rattle.reach.proofs.Members.{has-in, has-out}
 use Rattle.reach.proofs.Collect.{collect-first, collect-in, collect-out}
-use Rattle.reach.proofs.column.Statement.{statement}
-use Rattle.reach.proofs.column.Tie as tie
+use Rattle.paths.proofs.column.Statement.{statement}
+use Rattle.paths.proofs.column.Tie as tie
 
 abbrev Inv-loop : tie.InvT-loop
 Inv-loop sets l all₀ i₀ i-end all i = (i ≤ length sets) × Collects i (λ k. In l (setAt sets k)) all

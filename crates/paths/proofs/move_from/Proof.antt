@@ -1,4 +1,4 @@
--- `search::move_from` meets its contract.
+-- `paths::move_from` meets its contract.
 use borrow.Author.Needs.{needs}
 use mathlib.Core.Path.{_≡_, refl}
 use Prim.Native.Nat.{_<_}
@@ -6,9 +6,9 @@ use native.Mathlib.Omega.{arith}
 use lib.ListN.{length}
 use Rattle.masks.proofs.Laws.{in-pos}
 use Rattle.reach.proofs.Members.{at-small}
-use Rattle.search.proofs.Walking.{gives-meets, meets-leads}
-use Rattle.search.proofs.move_from.Statement.{statement}
-use Rattle.search.proofs.move_from.Tie as tie
+use Rattle.paths.proofs.Walking.{gives-meets, meets-leads}
+use Rattle.paths.proofs.move_from.Statement.{statement}
+use Rattle.paths.proofs.move_from.Tie as tie
 
 column-requires : tie.Need-column-requires
 column-requires c κs =

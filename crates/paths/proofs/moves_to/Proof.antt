@@ -1,4 +1,4 @@
--- `search::moves_to` meets its contract.
+-- `paths::moves_to` meets its contract.
 use borrow.Author.Needs.{needs}
 use mathlib.Core.Path.{_≡_, refl}
 use Prim.Native.Nat.{suc, _-_, _≤_, _<_}
@@ -9,10 +9,11 @@ use mir.Syntax.{w32}
 use Rattle.lists.proofs.Alls.{taken-length}
 use Rattle.sheet.specs.Sheets.{moveOf}
 use Rattle.masks.proofs.Laws.{in-small}
-use Rattle.reach.specs.Graphs.{setAt, Fewest}
-use Rattle.search.proofs.Walking.{Walk, back, back-fewest, step-back, stored-none, walked}
-use Rattle.search.proofs.moves_to.Statement.{statement}
-use Rattle.search.proofs.moves_to.Tie as tie
+use Rattle.reach.specs.Graphs.{setAt}
+use Rattle.paths.specs.Layers.{Fewest}
+use Rattle.paths.proofs.Walking.{Walk, back, back-fewest, step-back, stored-none, walked}
+use Rattle.paths.proofs.moves_to.Statement.{statement}
+use Rattle.paths.proofs.moves_to.Tie as tie
 
 abbrev Inv-loop : tie.InvT-loop
 Inv-loop graph donor count sets moves₀ giver₀ r₀ moves giver r =

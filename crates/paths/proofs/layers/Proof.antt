@@ -1,14 +1,14 @@
--- `reach::layers` meets its contract.
+-- `paths::layers` meets its contract.
 use borrow.Author.Needs.{needs}
 use mathlib.Core.Path.{_≡_, refl}
 use mathlib.Core.Bool.{false, true≢false}
 use mathlib.Core.Logic.{⊎-elim}
 use Prim.Native.Nat.{_+_, _-_}
 use Rattle.lists.proofs.Arrays.{Filled, filled-first, filled-next, filled-at}
 use Rattle.reach.specs.Graphs.{Layer, Spread}
 use Rattle.reach.proofs.Waves.{still, not-more}
-use Rattle.reach.proofs.layers.Statement.{statement}
-use Rattle.reach.proofs.layers.Tie as tie
+use Rattle.paths.proofs.layers.Statement.{statement}
+use Rattle.paths.proofs.layers.Tie as tie
 
 abbrev Inv-loop : tie.InvT-loop
 Inv-loop graph g wave₀ sets₀ growing₀ n₀ wave sets growing n =

@@ -1,4 +1,4 @@
--- `search::path_to` meets its contract.
+-- `paths::path_to` meets its contract.
 use borrow.Author.Needs.{needs}
 use mathlib.Core.Path.{refl}
 use Prim.Native.Nat.{ℕ}
@@ -7,9 +7,9 @@ use mir.Val.{Fits}
 use mir.Syntax.{w32}
 use Rattle.masks.proofs.Laws.{in-small}
 use Rattle.reach.specs.Graphs.{setAt}
-use Rattle.search.proofs.Bridge.{in-last}
-use Rattle.search.proofs.path_to.Statement.{statement}
-use Rattle.search.proofs.path_to.Tie as tie
+use Rattle.paths.proofs.Bridge.{in-last}
+use Rattle.paths.proofs.path_to.Statement.{statement}
+use Rattle.paths.proofs.path_to.Tie as tie
 
 -- the donor is in the last layer
 fewest-requires : tie.Need-fewest-requires
