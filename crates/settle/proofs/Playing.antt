@@ -1,5 +1,5 @@
 -- A loop that plays the moves of an exchange path in turn. Assumes nothing.
-use mathlib.Core.Path.{_≡_, refl, ap, sym, _∙_, fun-ext}
+use mathlib.Core.Path.{_≡_, refl, ap, sym, _∙_, subst, subst₂, fun-ext}
 use mathlib.Core.List.{List, [], _∷_}
 use Prim.Native.Nat.{ℕ, suc, _+_, _≤_, _<_}
 use native.Mathlib.Nat.{le-trans}
@@ -61,9 +61,10 @@ module _ (S : Sheet) (ms : List Move) where
 
 -- ---- a grid that is played on as a sheet
 
-module _ (g r : Grid) (s t : memory.Sheet) (ms : List Move) where
-  pub sheet-able : gridOf s ≡ g → AllPlayable (cell g) ms → AllPlayable (credit s) ms
-  sheet-able e p = rw (credit-is s, e) p
+pub sheet-able : (s : memory.Sheet) (g : Grid) (ms : List Move) → gridOf s ≡ g → AllPlayable (cell g) ms → AllPlayable (credit s) ms
+sheet-able s g ms e p = subst (λ (S : Sheet). AllPlayable S ms) (ap cell (sym e) ∙ sym (credit-is s)) p
 
-  pub grid-plays : gridOf s ≡ g → r ≡ gridOf t → Plays (credit s) ms (credit t) → Plays (cell g) ms (cell r)
-  grid-plays e f p = rw (← e, f, ← credit-is s, ← credit-is t) p
+pub grid-plays : (s t : memory.Sheet) (g r : Grid) (ms : List Move) → gridOf s ≡ g → r ≡ gridOf t → Plays (credit s) ms (credit t)
+    → Plays (cell g) ms (cell r)
+grid-plays s t g r ms e f p =
+    subst₂ (λ (S T : Sheet). Plays S ms T) (credit-is s ∙ ap cell e) (credit-is t ∙ ap cell (sym f)) p

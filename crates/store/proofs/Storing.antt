@@ -9,10 +9,7 @@ use native.Mathlib.Omega.{arith}
 use lib.ListN.{length, getD, drop, length-append}
 use Rattle.fairness.specs.Leximin.{table}
 use Rattle.lists.proofs.Buffers.{stored-none, stored-next, stored-as, stored-length, stored-front}
-use Rattle.model.specs.Book.{Grid, Shaped}
-use Rattle.sheet.specs.Sheets.{noRow, gridOf}
-use Rattle.sheet.specs.declared.Sheet.{Sheet}
-use Rattle.sheet.proofs.Cells.{row-is}
+use Rattle.model.specs.Book.{Grid}
 use Rattle.dayfile.specs.File.{bytesOf, flat}
 use Rattle.dayfile.specs.Memory.{sized, sizedGrid}
 use Rattle.dayfile.proofs.Tables.{sized-length, sized-more}
@@ -117,13 +114,9 @@ list-room {n = n} xs i r h k =
 pub grid-none : (l : List ℕ) (at m : ℕ) (g : Grid) → Put l at (flat (sizedGrid 0 m g)) at l
 grid-none l at m g = put-as (sized-flat-none m g) (put-none l at)
 
-pub grid-more : {l : List ℕ} {at : ℕ} (m : ℕ) (s : Sheet) (i : ℕ) {p r : ℕ} {b d : List ℕ}
-    → Put l at (flat (sizedGrid i m (gridOf s))) p b → Put b p (sized m (getD (s .rows) i noRow .cells)) r d
-    → Put l at (flat (sizedGrid (i + 1) m (gridOf s))) r d
-grid-more m s i h k =
-    let front : List ℕ = flat (sizedGrid i m (gridOf s)) in
-    let row = ap (λ (cells : List ℕ). front ++ sized m cells) (sym (row-is s i)) in
-    put-as (row ∙ sym (sized-flat-more i m (gridOf s))) (put-then h k)
+pub grid-more : {l : List ℕ} {at : ℕ} (m : ℕ) (g : Grid) (i : ℕ) {p r : ℕ} {b d : List ℕ}
+    → Put l at (flat (sizedGrid i m g)) p b → Put b p (sized m (getD g i [])) r d → Put l at (flat (sizedGrid (i + 1) m g)) r d
+grid-more m g i h k = put-as (sym (sized-flat-more i m g)) (put-then h k)
 
 pub grid-room : {l : List ℕ} {at : ℕ} {n : ℕ} (m : ℕ) (g : Grid) (i : ℕ) (xs : List ℕ) {p : ℕ} {b : List ℕ}
     → Room l at (flat (sizedGrid n m g)) → i < n → Put l at (flat (sizedGrid i m g)) p b → Room b p (sized m xs)
@@ -133,10 +126,6 @@ grid-room {n = n} m g i xs r h k =
     let w = sized-length m xs in
     let q = mul-le-mul-right m h in
     let x = put-end k in let y = put-long k in record { fits = omega (arith, r .fits) }
-
--- a row of a sheet in memory has 24 cells
-pub row-long : (s : Sheet) → Shaped 32 24 (gridOf s) → (i : ℕ) → i < 32 → length (getD (s .rows) i noRow .cells) ≡ 24
-row-long s h i l = ap length (sym (row-is s i)) ∙ h .row i l
 
 -- ---- what may be missing: no rows
 

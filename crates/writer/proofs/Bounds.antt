@@ -13,7 +13,7 @@ use lib.Seq.{getD-append-add}
 use Rattle.model.specs.Lowest.{lowest}
 use Rattle.model.proofs.Lowest.{Lowest, Fails, lowest-fails, lowest-is, lowest-some, lowest-none}
 use Rattle.dayfile.specs.Table.{within, offset}
-use Rattle.model.specs.Book.{Grid}
+use Rattle.model.specs.Book.{Grid, Shaped}
 use Rattle.sheet.specs.Sheets.{noRow, gridOf}
 use Rattle.sheet.specs.declared.Sheet.{Sheet}
 use Rattle.sheet.proofs.Cells.{row-is}
@@ -155,6 +155,10 @@ module _ (low high at m : ℕ) (g : Grid) where
       ∙ outside-some-more low high at (flat (sizedGrid i m g)) (sized m (getD g i [])) (r .more) p h (row-at i ∙ k)
 
 -- a row of a sheet in memory
+-- a row of a sheet in memory has 24 cells
+pub row-long : (s : Sheet) → Shaped 32 24 (gridOf s) → (i : ℕ) → i < 32 → length (getD (s .rows) i noRow .cells) ≡ 24
+row-long s h i l = ap length (sym (row-is s i)) ∙ h .row i l
+
 pub row-of : (low high at m : ℕ) (s : Sheet) (i : ℕ)
     → outsideIn (sized m (getD (s .rows) i noRow .cells)) (at + 2 * (i * m)) low high ≡ row low high at m (gridOf s) i
 row-of low high at m s i = ap (λ (xs : List ℕ). outsideIn (sized m xs) (at + 2 * (i * m)) low high) (sym (row-is s i))

@@ -19,12 +19,12 @@ loop-holds c = (filled-none _ _ _ _ (c .before .pre .1 .0), search needs)
 
 loop-again : tie.Need-loop-again Inv-loop μ-loop
 loop-again c =
-    let b = c .before .before .before .before in
+    let b = c .before .before .before in
     (filled-more _ _ _ _ (b .loop .w) (b .loop .grid) (b .loop .inv .0) _ (c .fill-window .ensures), search needs)
 
 fill-window-requires : tie.Need-fill-window-requires Inv-loop μ-loop
 fill-window-requires c κs =
-    let b = c .before .before .before in
+    let b = c .before .before in
     let start = b .before .before in
     let a = start .args in
     let w = b .loop .w in

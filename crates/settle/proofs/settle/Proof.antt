@@ -24,16 +24,16 @@ loop-holds : tie.Need-loop-holds Inv-loop μ-loop
 loop-holds c = c .pre .1
 
 find-path-requires : tie.Need-find-path-requires Inv-loop μ-loop
-find-path-requires c κs = (c .before .pre .0, c .loop .inv .feasible)
+find-path-requires c κs = (c .before .before .pre .0, c .before .loop .inv .feasible)
 
 -- what the path of a turn is
 answers : (c : tie.After-find-path Inv-loop μ-loop) →
-    let b = c .before .before in
+    let b = c .before .before .before in
     let x = c .find-path .result in
-    Answers (instanceIn (b .args .t) (b .args .caps .now)) (cell (c .before .loop .grid)) (x .kind) (x .receiver) (x .donor) (movesOf x)
+    Answers (instanceIn (b .args .t) (b .args .caps .now)) (cell (c .before .before .loop .grid)) (x .kind) (x .receiver) (x .donor) (movesOf x)
 answers c =
-    let b = c .before .before in
-    c .find-path .ensures .1 _ _ (told-in (b .args .t) (b .args .caps .now)) (shows-itself (b .args .t) (c .before .loop .grid))
+    let b = c .before .before .before in
+    c .find-path .ensures .1 _ _ (told-in (b .args .t) (b .args .caps .now)) (shows-itself (b .args .t) (c .before .before .loop .grid))
 
 -- where a turn plays a path there is one
 there : (c : tie.At-match-keys2 Inv-loop μ-loop) → c .before .find-path .result .kind ≢ None
@@ -42,30 +42,30 @@ there c e = ⊎-elim (λ q. omega (arith, q)) (λ q. omega (arith, q)) (rw e at 
 returns : tie.Need-returns Inv-loop μ-loop
 returns c =
     let n = c .before .before in
-    let b = n .before .before in
-    let last = turn-last (b .args .t) (b .args .caps .now) (b .pre .0) (n .before .loop .grid) (n .before .loop .inv) in
+    let b = n .before .before .before in
+    let last = turn-last (b .args .t) (b .args .caps .now) (b .pre .0) (n .before .before .loop .grid) (n .before .before .loop .inv) in
     last (n .find-path .result) (answers n) (c .enum-told .given .1)
 
 play-path-requires : tie.Need-play-path-requires Inv-loop μ-loop
 play-path-requires c κs =
-    let n = c .before in
-    let b = n .before .before in
-    let playable = turn-playable (b .args .t) (b .args .caps .now) (b .pre .0) (n .before .loop .grid) (n .before .loop .inv) in
-    (n .find-path .ensures .0, playable (n .find-path .result) (answers n) (there c))
+    let n = c .before .before in
+    let b = n .before .before .before in
+    let playable = turn-playable (b .args .t) (b .args .caps .now) (b .pre .0) (n .before .before .loop .grid) (n .before .before .loop .inv) in
+    (n .find-path .ensures .0, playable (n .find-path .result) (answers n) (there (c .before)))
 
 loop-less : tie.Need-loop-less Inv-loop μ-loop
 loop-less c =
-    let n = c .before .before in
-    let b = n .before .before in
-    let less = turn-less (b .args .t) (b .args .caps .now) (b .pre .0) (n .before .loop .grid) (n .before .loop .inv) in
-    less (n .find-path .result) (answers n) (there (c .before)) _ (c .play-path .ensures)
+    let n = c .before .before .before in
+    let b = n .before .before .before in
+    let less = turn-less (b .args .t) (b .args .caps .now) (b .pre .0) (n .before .before .loop .grid) (n .before .before .loop .inv) in
+    less (n .find-path .result) (answers n) (there (c .before .before)) _ (c .play-path .ensures)
 
 loop-again : tie.Need-loop-again Inv-loop μ-loop
 loop-again c =
-    let n = c .before .before in
-    let b = n .before .before in
-    let full = turn-full (b .args .t) (b .args .caps .now) (b .pre .0) (n .before .loop .grid) (n .before .loop .inv) in
-    full (n .find-path .result) (answers n) (there (c .before)) _ (c .play-path .ensures)
+    let n = c .before .before .before in
+    let b = n .before .before .before in
+    let full = turn-full (b .args .t) (b .args .caps .now) (b .pre .0) (n .before .before .loop .grid) (n .before .before .loop .inv) in
+    full (n .find-path .result) (answers n) (there (c .before .before)) _ (c .play-path .ensures)
 
 pub settle-spec : {M : Type 1} → statement M
 settle-spec =

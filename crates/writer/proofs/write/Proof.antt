@@ -1,5 +1,9 @@
+use mathlib.Core.Path.{_∙_, ap₂}
 use native.Mathlib.Omega.{arith}
+use denote.Ref.{now}
+use Rattle.model.specs.Book.{Grid}
 use Rattle.sheet.specs.Sheets.{gridOf}
+use Rattle.dayfile.specs.Memory.{fileWith, front}
 use Rattle.dayfile.proofs.Answers.{refuses, passes}
 use Rattle.writer.proofs.Checks.{early, no-room, enough, lines-pass}
 use borrow.Author.Needs.{needs}
@@ -26,26 +30,33 @@ returns-2 c =
 
 put-file-requires : tie.Need-put-file-requires
 put-file-requires c κs =
-    let l = c .before .before in
+    let s = c .before .before .before in
+    let g = s .before in
+    let l = g .before .before in
     let t = l .before in
     let k = t .before .before in
     let d = k .before .before .args .day in
-    let e = l .file-length .ensures (gridOf (d .caps)) (gridOf (d .sheet)) in
+    let e = l .file-length .ensures (g .to-grid .result) (s .to-grid2 .result) in
     let p = lines-pass d (passes (k .check-day .ensures) (t .enum-told .given .1)) in ((p .0, p .1), omega arith)
 
 returns-3 : tie.Need-returns-3
 returns-3 c =
     let f = c .before .before in
-    let i = f .before .before in
+    let s = f .before .before .before .before in
+    let g = s .before in
+    let i = g .before in
     let l = i .before in
     let t = l .before in
     let k = t .before .before in
-    let d = k .before .before .args .day in
+    let a = k .before .before .args in
+    let d = a .day in
     let p = passes (k .check-day .ensures) (t .enum-told .given .1) in
-    enough d _ _ p (l .file-length .ensures (gridOf (d .caps)) (gridOf (d .sheet))) (i .if1 .left) (f .put-file .ensures .1)
+    let e = ap₂ (λ (x y : Grid). front (fileWith (d .book) x (d .«has_sheet») y) (now (a .out))) (g .to-grid .ensures) (s .to-grid2 .ensures) in
+    enough d _ _ p (l .file-length .ensures (gridOf (d .caps)) (gridOf (d .sheet))) (i .if1 .left) (f .put-file .ensures .1 ∙ e)
 
 pub write-spec : {M : Type 1} → statement M
 write-spec =
     tie.close
-    (tie.spec (λ c κs. search needs) (λ c. search needs) returns (λ c. search needs) file-length-requires returns-2 put-file-requires
+    (tie.spec (λ c κs. search needs) (λ c. search needs) returns (λ c. search needs) file-length-requires returns-2 (λ c κs. search needs)
+    (λ c κs. search needs) put-file-requires
     (λ c. search needs) returns-3)

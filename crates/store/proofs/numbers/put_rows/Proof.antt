@@ -4,7 +4,7 @@ use native.Mathlib.Omega.{arith}
 use Rattle.dayfile.specs.File.{flat}
 use Rattle.dayfile.specs.Memory.{sizedGrid}
 use Rattle.store.specs.Stores.{Put}
-use Rattle.store.proofs.Storing.{put-as, put-long, row-long, grid-none, grid-more, grid-room}
+use Rattle.store.proofs.Storing.{put-as, put-long, grid-none, grid-more, grid-room}
 use borrow.Author.Needs.{needs}
 use Rattle.store.proofs.numbers.put_rows.Statement.{statement}
 use Rattle.store.proofs.numbers.put_rows.Tie as tie

@@ -1,5 +1,4 @@
 use Rattle.sheet.proofs.Shapes.{shaped}
-use Rattle.store.proofs.Storing.{row-long}
 use mathlib.Core.Option.{none}
 use mathlib.Core.Path.{_≡_, sym, _∙_, ap}
 use Prim.Native.Nat.{ℕ, _*_, _-_, _≤_, zero-le}
@@ -7,7 +6,7 @@ use native.Mathlib.Nat.{mul-le-mul}
 use native.Mathlib.Omega.{arith}
 use Rattle.sheet.specs.Sheets.{gridOf}
 use Rattle.dayfile.proofs.Answers.{at-line, no-line}
-use Rattle.writer.proofs.Bounds.{rows, row-of, rows-first, rows-more, rows-found}
+use Rattle.writer.proofs.Bounds.{rows, row-long, row-of, rows-first, rows-more, rows-found}
 use borrow.Author.Needs.{needs}
 use Rattle.writer.proofs.lines.above_in.Statement.{statement}
 use Rattle.writer.proofs.lines.above_in.Tie as tie
