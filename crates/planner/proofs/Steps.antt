@@ -61,7 +61,7 @@ module _ (m : Memory.Book) (caps g : Grid) where
   planned-size = planned-length b used (book-shaped m caps) used-sheet
 
   -- a settled grid makes a planned file
-  pub planned-is : Settled (instanceOf (bookIn m caps)) (cell g) → (old new : List ℕ) → new ≡ front (fileWith m caps true g) old
+  planned-is : Settled (instanceOf (bookIn m caps)) (cell g) → (old new : List ℕ) → new ≡ front (fileWith m caps true g) old
       → Planned (bookIn m caps) old new
   unfolding instanceOf fileWith
   planned-is settled old new w =
@@ -71,6 +71,12 @@ module _ (m : Memory.Book) (caps g : Grid) where
         settled = agree-settled (instanceOf b) (cell g) (cell used) used-cell settled;
         bytes = w;
       }
+
+-- caps that were read and put into an array of arrays
+pub planned-as : (m : Memory.Book) (caps read g : Grid) → caps ≡ read → Settled (instanceOf (bookIn m caps)) (cell g)
+    → (old new : List ℕ) → new ≡ front (fileWith m caps true g) old → Planned (bookIn m read) old new
+planned-as m caps read g e settled old new w =
+    subst (λ (x : Grid). Planned (bookIn m x) old new) e (planned-is m caps g settled old new w)
 
 -- ---- the answers
 

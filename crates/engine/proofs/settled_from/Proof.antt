@@ -7,15 +7,17 @@ use Rattle.engine.proofs.settled_from.Tie as tie
 
 fill-requires : tie.Need-fill-requires
 fill-requires c κs =
-    let bounds = c .pre .0 .ranged in
-    ((bounds .seats-most, bounds .windows-most), (is-grid (c .args .grid) _ (c .good .0) .shape, c .pre .1))
+    let b = c .before in
+    let bounds = b .pre .0 .ranged in
+    ((bounds .seats-most, bounds .windows-most), (is-grid (b .args .grid) _ (b .good .0) .shape, b .pre .1))
 
 settle-requires : tie.Need-settle-requires
 settle-requires c κs =
-    let filled = c .before in
-    let b = filled .before in
+    let evened = c .before in
+    let filled = evened .before .before in
+    let b = filled .before .before in
     let a = b .args in
-    let f = c .even-out .ensures (a .t .supplies) (filled .fill .ensures) in
+    let f = evened .even-out .ensures (a .t .supplies) (filled .fill .ensures) in
     (b .pre .0, grid-full (a .t) (a .caps .now) _ f)
 
 pub settled-from-spec : {M : Type 1} → statement M

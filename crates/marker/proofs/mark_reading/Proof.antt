@@ -37,5 +37,5 @@ returns-2 c =
 
 pub mark-reading-spec : {M : Type 1} → statement M
 mark-reading-spec =
-    tie.close (tie.spec check-file-requires (λ c. search needs) returns (λ c. search needs) (λ c κs. search needs) mark-sheet-requires
-    (λ c. search needs) returns-2)
+    tie.close (tie.spec check-file-requires (λ c. search needs) returns (λ c. search needs) (λ c κs. search needs)
+    (λ c κs. search needs) mark-sheet-requires (λ c. search needs) returns-2)

@@ -16,8 +16,7 @@ use Rattle.dayfile.specs.Memory.{bookIn, dayBook, fileWith}
 use Rattle.dayfile.proofs.Held.{seats-in, windows-in}
 use Rattle.dayfile.proofs.Readings.{read-refused, read-sound, read-fits}
 use Rattle.sheet.specs.Sheets.{gridOf}
-use Rattle.planner.specs.Planning.{Planned}
-use Rattle.planner.proofs.Steps.{planned-size, planned-is, plan-refused, plan-short, plan-whole}
+use Rattle.planner.proofs.Steps.{planned-size, planned-as, plan-refused, plan-short, plan-whole}
 use Rattle.planner.proofs.plan.Statement.{statement}
 use Rattle.planner.proofs.plan.Tie as tie
 
@@ -78,7 +77,7 @@ length-is c =
 
 put-file-requires : tie.Need-put-file-requires
 put-file-requires c κs =
-    let s = c .before in
+    let s = c .before .before .before in
     let n = s .before .before .before in
     let k = n .before in
     let read = k .before .before .before .read in
@@ -88,17 +87,15 @@ put-file-requires c κs =
 returns-3 : tie.Need-returns-3
 returns-3 c =
     let put = c .before .before in
-    let sheet = put .before .before in
+    let sheet = put .before .before .before .before in
     let g = sheet .before in
     let n = g .before .before in
     let k = n .before in
     let read = k .before .before .before .read in
     let d = read .result .day in
-    let planned = planned-is (d .book) (g .to-grid .result) (sheet .planned-sheet .result) (sheet .planned-sheet .ensures)
-    _ _ (put .put-file .ensures .1) in
     plan-whole _ _ _ (read .ensures) (free k) _ (needed n) (g .before .if1 .left) _ _
     (put .put-file .ensures .0 ∙ length-is sheet)
-    (subst (λ (x : Grid). Planned (bookIn (d .book) x) _ _) (g .to-grid .ensures) planned)
+    (planned-as (d .book) _ _ _ (g .to-grid .ensures) (sheet .planned-sheet .ensures) _ _ (put .put-file .ensures .1))
 
 pub plan-spec : {M : Type 1} → statement M
 plan-spec =

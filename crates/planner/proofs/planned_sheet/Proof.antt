@@ -6,12 +6,13 @@ use Rattle.planner.proofs.planned_sheet.Tie as tie
 
 settled-requires : tie.Need-settled-requires
 settled-requires c κs =
-    let b = c .before in
-    let made = c .terms-of .ensures in
-    small-caps _ (c .terms-of .result) (b .args .caps) (b .pre) (made .1 (b .args .caps)) (made .0)
+    let t = c .before in
+    let b = t .before in
+    let made = t .terms-of .ensures in
+    small-caps _ (t .terms-of .result) (b .args .t2) (b .pre) (made .1 (b .args .t2)) (made .0)
 
 returns : tie.Need-returns
-returns c = c .settled .ensures _ (c .before .terms-of .ensures .1 (c .before .before .args .caps))
+returns c = let t = c .before .before in c .settled .ensures _ (t .terms-of .ensures .1 (t .before .args .t2))
 
 pub planned-sheet-spec : {M : Type 1} → statement M
 planned-sheet-spec = tie.close (tie.spec (λ c κs. (_, c .pre)) settled-requires returns)

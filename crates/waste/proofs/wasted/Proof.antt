@@ -22,7 +22,7 @@ abbrev μ-loop : tie.MeasureT-loop
 returns : tie.Need-returns Inv-loop μ-loop
 returns c =
     let k = c .before .before .before in
-    let test = k .before .before .before in
+    let test = k .before in
     let l = test .before in
     let placed = l .before .before .placed in
     let found = at-line (k .seat-below .ensures) (c .before .seat .given .1) in
@@ -34,7 +34,7 @@ loop-again c =
     let l = c .before in
     search-on (l .before .loop .inv) (l .loop-test .taken)
     (⊎-elim
-    (λ t. ap₂ _&&_ (lt-ltb _ _ (t .0 .taken)) (ap isSome (no-line (t .3 .ensures) (t .5 .given .1))))
+    (λ t. ap₂ _&&_ (lt-ltb _ _ (t .0 .taken)) (ap isSome (no-line (t .1 .ensures) (t .3 .given .1))))
     (λ t. rw (le-ltb _ _ (t .left)) refl)
     (c .if1 .came))
 
@@ -45,6 +45,6 @@ returns-2 c =
 
 pub wasted-spec : {M : Type 1} → statement M
 wasted-spec =
-    tie.close (tie.spec Inv-loop μ-loop (λ c κs. search needs) (λ c κs. search needs) (λ c. search-first refl) (λ c. search needs)
+    tie.close (tie.spec Inv-loop μ-loop (λ c κs. search needs) (λ c. search-first refl) (λ c. search needs)
     (λ c. search needs) (λ c. search needs) (λ c. search needs) (λ c. search needs) (λ c κs. search needs) (λ c. search needs) returns
     (λ c. search needs) (λ c. search needs) (λ c. search needs) loop-again returns-2)
