@@ -21,7 +21,7 @@ loop-holds c = filled-first refl (c .pre .0)
 
 loop-again : tie.Need-loop-again Inv-loop μ-loop
 loop-again c =
-    let test = c .before .before .before in
+    let test = c .before .before .before .before in
     filled-next (test .before .loop .inv) (test .loop-test .taken) (c .row-total .ensures .0)
 
 returns : tie.Need-returns Inv-loop μ-loop
