@@ -138,7 +138,7 @@ pub fn see_write(book: Book, caps: Caps, out: &mut [u8]) -> Seen {
         },
         Written::Whole { length } => Seen {
             number: 0,
-            right: sound(reader::read_check(front(out, length))) && all_from(out, length, 255),
+            right: sound(sound::check(front(out, length))) && all_from(out, length, 255),
         },
     }
 }
