@@ -1,11 +1,11 @@
 // Damaged files and books through all calls: their refusals agree, and none changes a byte.
+use answers::Marking;
 use dayfile::Book;
 use dayfile::Check;
 use dayfile::Day;
 use dayfile::Written;
 use lawful::MOVES_ROOM;
 use listing::LISTING_MAX;
-use marker::Marking;
 use say::all_from;
 use say::front;
 use sheet::Caps;

@@ -3,11 +3,11 @@ use mathlib.Core.Path.{ap, sym, _∙_}
 use Prim.Native.Nat.{ℕ}
 use borrow.Author.Needs.{needs}
 use Rattle.dayfile.specs.declared.Check.{Check}
-use Rattle.numbers.specs.declared.CreditsBook.{CreditsBook}
-use Rattle.numbers.specs.declared.ReadResult.{ReadResult}
-use Rattle.numbers.specs.Numbers.{readAs}
-use Rattle.numbers.proofs.ReadResult.of.Statement.{statement}
-use Rattle.numbers.proofs.ReadResult.of.Tie as tie
+use Rattle.answers.specs.declared.CreditsBook.{CreditsBook}
+use Rattle.answers.specs.declared.ReadResult.{ReadResult}
+use Rattle.answers.specs.Numbers.{readAs}
+use Rattle.answers.proofs.ReadResult.of.Statement.{statement}
+use Rattle.answers.proofs.ReadResult.of.Tie as tie
 
 abbrev result : ℕ → ℕ → CreditsBook → ReadResult
 result n p b = record { refusal = n; offset = p; book = b }

@@ -2,10 +2,10 @@
 use mathlib.Core.Bool.{Bool}
 use mathlib.Core.Path.{ap, sym}
 use Rattle.dayfile.specs.declared.Day.{Day}
-use Rattle.numbers.specs.declared.CreditsBook.{CreditsBook}
-use Rattle.numbers.specs.Numbers.{bookFrom}
-use Rattle.numbers.proofs.CreditsBook.of.Statement.{statement}
-use Rattle.numbers.proofs.CreditsBook.of.Tie as tie
+use Rattle.answers.specs.declared.CreditsBook.{CreditsBook}
+use Rattle.answers.specs.Numbers.{bookFrom}
+use Rattle.answers.proofs.CreditsBook.of.Statement.{statement}
+use Rattle.answers.proofs.CreditsBook.of.Tie as tie
 
 -- whether there is a sheet, found out
 abbrev told : Day → Bool → CreditsBook

@@ -3,9 +3,9 @@ use mathlib.Core.Path.{_≡_}
 use Prim.Native.Nat.{ℕ, _≤_, zero-le}
 use Rattle.model.specs.Marks.{Result}
 use Rattle.dayfile.specs.Outcome.{Outcome, turnedAway, answer}
-use Rattle.marker.specs.declared.Numbers.{Numbers}
-use Rattle.marker.specs.Marking.{numbersOf}
-use Rattle.numbers.specs.Steps.{Small}
+use Rattle.answers.specs.declared.Numbers.{Numbers}
+use Rattle.answers.specs.Answers.{numbersOf}
+use Rattle.answers.specs.Steps.{Small}
 
 -- an answer's numbers in memory
 pub small-numbers : (o : Outcome Result) (n : Numbers) → Small o → n ≡ numbersOf o → (n .window ≤ 32) × (n .seat ≤ 32) × (n .moves ≤ 32)

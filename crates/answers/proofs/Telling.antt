@@ -4,10 +4,10 @@ use Prim.Native.Nat.{ℕ}
 use native.Mathlib.Omega.{arith}
 use Rattle.dayfile.specs.Table.{refuse}
 use Rattle.dayfile.specs.Outcome.{turnedAway, answer}
-use Rattle.marker.specs.declared.Marking.{Marking}
-use Rattle.marker.specs.declared.Marking.the-variants.{Refused, Wasteful, Improvable, Tied, Settled}
-use Rattle.marker.specs.declared.Numbers.{Numbers}
-use Rattle.marker.specs.Marking.{told, numbersOf, resultIn}
+use Rattle.answers.specs.declared.Marking.{Marking}
+use Rattle.answers.specs.declared.Marking.the-variants.{Refused, Wasteful, Improvable, Tied, Settled}
+use Rattle.answers.specs.declared.Numbers.{Numbers}
+use Rattle.answers.specs.Answers.{told, numbersOf, resultIn}
 
 no-mark : (r : Marking) → numbersOf (told r) .mark ≡ 0 →
     told r ≡ turnedAway (refuse (numbersOf (told r) .refusal) (numbersOf (told r) .offset))

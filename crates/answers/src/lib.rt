@@ -1,15 +1,34 @@
-// What crosses to C: #[repr(C)] structs of numbers, laid out as include/credits.h says, and each answer as one of them.
+// What the calls answer, in numbers. What crosses to C: #[repr(C)] structs of numbers, laid out as include/credits.h says.
 ghost use mathlib.Core.Path.{_≡_};
-ghost use Rattle.marker.specs.Marking.{told};
-ghost use Rattle.numbers.specs.Numbers.{bookFrom, dayFrom, readNumbers, writeNumbers, markNumbers};
-ghost use Rattle.numbers.specs.Steps.{Small};
+ghost use Rattle.dayfile.specs.Outcome.{answer};
+ghost use Rattle.answers.specs.Answers.{told, numbersOf};
+ghost use Rattle.answers.specs.Numbers.{bookFrom, dayFrom, readNumbers, writeNumbers, markNumbers};
+ghost use Rattle.answers.specs.Steps.{Small};
 use dayfile::Book;
 use dayfile::Check;
 use dayfile::Day;
 use dayfile::Reading;
 use dayfile::Written;
-use marker::Marking;
 use sheet::Sheet;
+
+// What the marker says: a refusal, or one of the four marks, with numbers counted from 1.
+pub enum Marking {
+    Refused { number: u8, at: usize },
+    Wasteful { window: usize, seat: usize },
+    Improvable { moves: usize },
+    Tied { moves: usize },
+    Settled,
+}
+
+// An answer in numbers: a refusal's number and offset, or a mark and what comes with it. What an answer does not use is 0.
+pub struct Numbers {
+    pub refusal: u8,
+    pub offset: usize,
+    pub mark: u8,
+    pub window: usize,
+    pub seat: usize,
+    pub moves: usize,
+}
 
 // A book with its caps, and a sheet unless has_sheet is 0. Later fields go to its end, so that offsets stay.
 #[repr(C)]
@@ -48,6 +67,43 @@ pub struct MarkResult {
     pub window: u32,
     pub seat: u32,
     pub moves: u32,
+}
+
+impl Numbers {
+    // The numbers of a mark.
+    fn of_mark(mark: u8, window: usize, seat: usize, moves: usize) -> Numbers
+        ensures { λ r. ⌜ r ≡ numbersOf (answer (record { mark = mark; window = window; seat = seat; moves = moves })) ⌝ }
+    {
+        Numbers {
+            refusal: 0,
+            offset: 0,
+            mark,
+            window,
+            seat,
+            moves,
+        }
+    }
+}
+
+impl Marking {
+    pub fn numbers(self) -> Numbers
+        ensures { λ r. ⌜ r ≡ numbersOf (told self) ⌝ }
+    {
+        match self {
+            Marking::Refused { number, at } => Numbers {
+                refusal: number,
+                offset: at,
+                mark: 0,
+                window: 0,
+                seat: 0,
+                moves: 0,
+            },
+            Marking::Wasteful { window, seat } => Numbers::of_mark(1, window, seat, 0),
+            Marking::Improvable { moves } => Numbers::of_mark(2, 0, 0, moves),
+            Marking::Tied { moves } => Numbers::of_mark(3, 0, 0, moves),
+            Marking::Settled => Numbers::of_mark(4, 0, 0, 0),
+        }
+    }
 }
 
 impl ReadResult {

@@ -9,13 +9,13 @@ use Rattle.dayfile.specs.declared.Check as Check
 use Rattle.dayfile.specs.declared.Day.{Day}
 use Rattle.dayfile.specs.declared.Reading.{Reading}
 use Rattle.dayfile.specs.declared.Written.{Written}
-use Rattle.marker.specs.declared.Marking.{Marking}
-use Rattle.marker.specs.declared.Numbers.{Numbers}
-use Rattle.marker.specs.Marking.{told, numbersOf}
-use Rattle.numbers.specs.declared.CreditsBook.{CreditsBook}
-use Rattle.numbers.specs.declared.ReadResult.{ReadResult}
-use Rattle.numbers.specs.declared.MarkResult.{MarkResult}
-use Rattle.numbers.specs.declared.WriteResult.{WriteResult}
+use Rattle.answers.specs.declared.Marking.{Marking}
+use Rattle.answers.specs.declared.Numbers.{Numbers}
+use Rattle.answers.specs.Answers.{told, numbersOf}
+use Rattle.answers.specs.declared.CreditsBook.{CreditsBook}
+use Rattle.answers.specs.declared.ReadResult.{ReadResult}
+use Rattle.answers.specs.declared.MarkResult.{MarkResult}
+use Rattle.answers.specs.declared.WriteResult.{WriteResult}
 
 -- ---- books
 

@@ -1,11 +1,11 @@
 -- `MarkResult::of` meets its contract: the numbers of the answer.
 use mathlib.Core.Path.{ap}
 use borrow.Author.Needs.{needs}
-use Rattle.marker.specs.Marking.{told}
-use Rattle.numbers.specs.Numbers.{markAs}
-use Rattle.numbers.proofs.Laws.{small-numbers}
-use Rattle.numbers.proofs.MarkResult.of.Statement.{statement}
-use Rattle.numbers.proofs.MarkResult.of.Tie as tie
+use Rattle.answers.specs.Answers.{told}
+use Rattle.answers.specs.Numbers.{markAs}
+use Rattle.answers.proofs.Laws.{small-numbers}
+use Rattle.answers.proofs.MarkResult.of.Statement.{statement}
+use Rattle.answers.proofs.MarkResult.of.Tie as tie
 
 cast-t5 : tie.Need-cast-t5
 cast-t5 c =

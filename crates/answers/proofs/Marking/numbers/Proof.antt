@@ -1,11 +1,11 @@
--- `marker::Marking::numbers` meets its contract: the numbers of each case.
+-- `answers::Marking::numbers` meets its contract: the numbers of each case.
 use mathlib.Core.Path.{ap, sym, _∙_}
 use borrow.Author.Needs.{needs}
-use Rattle.marker.specs.declared.Marking.{Marking}
-use Rattle.marker.specs.declared.Numbers.{Numbers}
-use Rattle.marker.specs.Marking.{told, numbersOf}
-use Rattle.marker.proofs.Marking.numbers.Statement.{statement}
-use Rattle.marker.proofs.Marking.numbers.Tie as tie
+use Rattle.answers.specs.declared.Marking.{Marking}
+use Rattle.answers.specs.declared.Numbers.{Numbers}
+use Rattle.answers.specs.Answers.{told, numbersOf}
+use Rattle.answers.proofs.Marking.numbers.Statement.{statement}
+use Rattle.answers.proofs.Marking.numbers.Tie as tie
 
 abbrev toldNumbers : Marking → Numbers
 toldNumbers m = numbersOf (told m)

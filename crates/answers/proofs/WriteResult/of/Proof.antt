@@ -1,9 +1,9 @@
 -- `WriteResult::of` meets its contract: the numbers of each case.
 use mathlib.Core.Path.{ap, sym}
 use borrow.Author.Needs.{needs}
-use Rattle.numbers.specs.Numbers.{writeNumbers}
-use Rattle.numbers.proofs.WriteResult.of.Statement.{statement}
-use Rattle.numbers.proofs.WriteResult.of.Tie as tie
+use Rattle.answers.specs.Numbers.{writeNumbers}
+use Rattle.answers.proofs.WriteResult.of.Statement.{statement}
+use Rattle.answers.proofs.WriteResult.of.Tie as tie
 
 returns : tie.Need-returns
 returns c = ap writeNumbers (sym (c .before .w .given .1))
