@@ -3,6 +3,7 @@
 use mathlib.Core.List.{List, []}
 use mathlib.Core.Path.{_≡_, refl, subst}
 use Prim.Native.Nat.{ℕ, _≤_}
+use native.Mathlib.Omega.{arith}
 use lib.ListN.{getD, replicate}
 use Rattle.fairness.specs.Leximin.{table}
 use Rattle.dayfile.specs.Memory.{sized, sizedGrid, held}
@@ -21,3 +22,15 @@ filled-blank {B = B} p z g {d} c {n} {l} {m} {i} {old} {xs} e blank f h least =
 pub blank-rows : held [] ≡ replicate 32 (sized 24 [])
 unfolding sizedGrid table
 blank-rows = refl
+
+-- the loop's end: all m are filled
+pub filled-whole : {A : Type 0} {P : ℕ → A → Type 0} {d : A} {n m i : ℕ} {old xs : List A}
+    → Filled P d n m old i xs → m ≤ i → Filled P d n m old m xs
+filled-whole f h =
+    record {
+      room = f .room;
+      within = omega arith;
+      size = f .size;
+      entry = λ k l. f .entry k (omega arith);
+      rest = λ k l. f .rest k (omega (arith, f .within));
+    }

@@ -1,0 +1,2 @@
+-- What contracts between the reader's functions cite.
+pub mod Arrays
