@@ -16,12 +16,13 @@ use Rattle.dayfile.specs.Memory.{WritesDay}
 use Rattle.dayfile.proofs.Lines.{none-parts}
 use Rattle.dayfile.proofs.Sound.{sound}
 use Rattle.dayfile.proofs.Accepted.{fits}
-use Rattle.marker.specs.declared.Marking.{Marking}
-use Rattle.marker.specs.Marking.{markedSheet, markFile, told, results, Marks}
+use Rattle.answers.specs.declared.Marking.{Marking}
+use Rattle.answers.specs.Answers.{told}
+use Rattle.marker.specs.Marking.{markedSheet, markFile, results, Marks}
 use Rattle.marker.proofs.Theorems.{marks-says}
-use Rattle.numbers.specs.declared.WriteResult.{WriteResult}
-use Rattle.numbers.specs.Numbers.{writeNumbers}
-use Rattle.numbers.specs.Steps.{Small}
+use Rattle.answers.specs.declared.WriteResult.{WriteResult}
+use Rattle.answers.specs.Numbers.{writeNumbers}
+use Rattle.answers.specs.Steps.{Small}
 use Rattle.credits.specs.Calls.{InNumbers}
 
 -- the writer is given a day that is another's

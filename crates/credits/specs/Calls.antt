@@ -6,11 +6,11 @@ use Rattle.dayfile.specs.Memory.{Reads, WritesDay}
 use Rattle.marker.specs.Marking.{Marks}
 use Rattle.planner.specs.Planning.{Plans}
 use Rattle.listing.specs.Calls.{Lists}
-use Rattle.numbers.specs.declared.CreditsBook.{CreditsBook}
-use Rattle.numbers.specs.declared.ReadResult.{ReadResult}
-use Rattle.numbers.specs.declared.MarkResult.{MarkResult}
-use Rattle.numbers.specs.declared.WriteResult.{WriteResult}
-use Rattle.numbers.specs.Numbers.{dayFrom, readNumbers, writeNumbers, markNumbers}
+use Rattle.answers.specs.declared.CreditsBook.{CreditsBook}
+use Rattle.answers.specs.declared.ReadResult.{ReadResult}
+use Rattle.answers.specs.declared.MarkResult.{MarkResult}
+use Rattle.answers.specs.declared.WriteResult.{WriteResult}
+use Rattle.answers.specs.Numbers.{dayFrom, readNumbers, writeNumbers, markNumbers}
 
 -- the contract of an exported call: the result is, in numbers, an answer that meets the contract of the call behind it
 pub record InNumbers {A R : Type 0} (numbers : A → R) (Contract : A → Type 0) (r : R) : Type 0 where

@@ -1,10 +1,10 @@
 // The library for C, Rust and Python: every public call, exported, in the order of include/credits.h. What crosses is numbers, slices and
 // structs of numbers. The contracts are in specs/Calls.antt.
 ghost use Rattle.credits.specs.Calls.{ReadsAs, WritesAs, MarksAs, PlansAs, ListsAs};
-use numbers::CreditsBook;
-use numbers::MarkResult;
-use numbers::ReadResult;
-use numbers::WriteResult;
+use answers::CreditsBook;
+use answers::MarkResult;
+use answers::ReadResult;
+use answers::WriteResult;
 
 // The book and the sheet of a file.
 #[no_mangle]

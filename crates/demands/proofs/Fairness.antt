@@ -20,10 +20,11 @@ use Rattle.dayfile.specs.Table.{markLines, planLines, movesRoom}
 use Rattle.dayfile.specs.Outcome.{answer, NoneHolds}
 use Rattle.dayfile.proofs.Answers.{answered, answer-none}
 use Rattle.dayfile.proofs.Lines.{none-holds}
-use Rattle.marker.specs.declared.Marking.{Marking}
-use Rattle.marker.specs.declared.Marking.the-variants.{Refused, Improvable, Tied, Settled}
-use Rattle.marker.specs.declared.Marking.the-variants as variants
-use Rattle.marker.specs.Marking.{markedSheet, told, Passing, Marks}
+use Rattle.answers.specs.declared.Marking.{Marking}
+use Rattle.answers.specs.declared.Marking.the-variants.{Refused, Improvable, Tied, Settled}
+use Rattle.answers.specs.declared.Marking.the-variants as variants
+use Rattle.answers.specs.Answers.{told}
+use Rattle.marker.specs.Marking.{markedSheet, Passing, Marks}
 use Rattle.lawful.proofs.Taken.{book-is, sheet-in, none-hold}
 use Rattle.marker.proofs.Theorems as marker
 use Rattle.planner.specs.Planning.{Plans}

@@ -12,8 +12,9 @@ use Rattle.dayfile.specs.Layout.{bookOf}
 use Rattle.dayfile.specs.Table.{Refusal, markLines, movesRoom}
 use Rattle.dayfile.specs.Outcome.{answer, unless, readFile}
 use Rattle.dayfile.proofs.Lines.{none-first-of}
-use Rattle.marker.specs.declared.Marking.{Marking}
-use Rattle.marker.specs.Marking.{markedSheet, markFile, told, results, Marks}
+use Rattle.answers.specs.declared.Marking.{Marking}
+use Rattle.answers.specs.Answers.{told}
+use Rattle.marker.specs.Marking.{markedSheet, markFile, results, Marks}
 use Rattle.lawful.proofs.Taken.{book-is, sheet-in, sheet-shape, none-hold}
 use Rattle.marker.proofs.Theorems.{marks-says}
 

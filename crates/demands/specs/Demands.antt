@@ -23,8 +23,9 @@ use Rattle.dayfile.specs.Outcome.{answer, readFile, NoneHolds, Defined}
 use Rattle.dayfile.specs.Memory.{dayBook, daySheet, fileIn, front, written, reading, Reads, WritesDay}
 use Rattle.listing.specs.Listing.{listingMax}
 use Rattle.listing.specs.Calls.{Listed, Lists}
-use Rattle.marker.specs.declared.Marking.{Marking}
-use Rattle.marker.specs.Marking.{markedSheet, told, BufferAfter, Marks, movesIn, Passing}
+use Rattle.answers.specs.declared.Marking.{Marking}
+use Rattle.answers.specs.Answers.{told}
+use Rattle.marker.specs.Marking.{markedSheet, BufferAfter, Marks, movesIn, Passing}
 use Rattle.planner.specs.Planning.{Planned, Plans}
 
 -- ---- Demand 1: each call gives a defined outcome or a numbered refusal, and a refusal changes no byte.

@@ -1,2 +1,2 @@
--- Laws of arrays that are filled from a file.
-pub mod Filling
+-- Laws of the fields.
+pub mod Products

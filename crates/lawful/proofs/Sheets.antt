@@ -12,7 +12,7 @@ use Rattle.fairness.specs.Sums.{sum}
 use Rattle.sheet.proofs.Sums.{Summed, next}
 use Rattle.dayfile.specs.Layout.{field, start, seatsIn, windowsIn, entryOf}
 use Rattle.dayfile.specs.Table.{cellAt, placedIn, line14, line15}
-use Rattle.reader.proofs.Products.{small}
+use Rattle.fields.proofs.Products.{small}
 use Rattle.lawful.specs.Firsts.{firstAbove, firstOver}
 
 -- two numbers that the code has compared

@@ -22,8 +22,9 @@ use Rattle.dayfile.proofs.Lines.{none-parts}
 use Rattle.dayfile.proofs.Sound.{sound}
 use Rattle.dayfile.proofs.Accepted.{fits}
 use Rattle.sheet.specs.Sheets.{gridOf}
-use Rattle.marker.specs.declared.Marking.{Marking}
-use Rattle.marker.specs.Marking.{markedSheet, markFile, told, results, PathWritten, BufferAfter, Marks}
+use Rattle.answers.specs.declared.Marking.{Marking}
+use Rattle.answers.specs.Answers.{told}
+use Rattle.marker.specs.Marking.{markedSheet, markFile, results, PathWritten, BufferAfter, Marks}
 use Rattle.marker.proofs.Theorems.{marks-says, marks-buffer}
 use Rattle.marker.proofs.Files.{book-read, sheet-read}
 use Rattle.lines.specs.Lines.{refusalLine, Printed}

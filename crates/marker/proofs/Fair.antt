@@ -12,8 +12,8 @@ use Rattle.paths.specs.declared.Kind.the-variants.{None, Improving, WronglyTied
 use Rattle.paths.specs.Paths.{movesOf}
 use Rattle.exchange.specs.Paths.{Writable, Answers}
 use Rattle.exchange.proofs.Theorems.{foundBy, on-lists}
-use Rattle.marker.specs.declared.Marking.{Marking}
-use Rattle.marker.specs.declared.Marking.the-variants.{Improvable, Tied, Settled}
+use Rattle.answers.specs.declared.Marking.{Marking}
+use Rattle.answers.specs.declared.Marking.the-variants.{Improvable, Tied, Settled}
 use Rattle.marker.specs.Marking.{PathWritten}
 use Rattle.marker.specs.Steps.{fairMark, MarkedAs}
 

@@ -23,8 +23,8 @@ use Rattle.dayfile.proofs.Tests.{when-none}
 use Rattle.dayfile.proofs.Sound.{sound}
 use Rattle.dayfile.proofs.Accepted.{fits}
 use Rattle.sheet.specs.Sheets.{gridOf}
-use Rattle.marker.specs.declared.Marking.{Marking}
-use Rattle.marker.specs.declared.Marking.the-variants.{Refused}
+use Rattle.answers.specs.declared.Marking.{Marking}
+use Rattle.answers.specs.declared.Marking.the-variants.{Refused}
 use Rattle.marker.specs.Marking as marking
 use Rattle.marker.specs.Marking.{Marks}
 use Rattle.marker.specs.Steps.{MarkedAs, Markable}

@@ -3,7 +3,6 @@ pub mod Coding
 pub mod Fair
 pub mod Memory
 pub mod Files
--- for callers: what an answer's numbers tell, and demand 3
-pub mod Telling
+-- for callers: demand 3
 pub mod Decode
 pub mod Theorems

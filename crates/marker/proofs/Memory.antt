@@ -15,8 +15,8 @@ use Rattle.instance.specs.Terms.{instanceIn, Told, Shows, Ranged, Small}
 use Rattle.instance.proofs.Told.{small-told, shown-feasible}
 use Rattle.waste.specs.declared.Waste.{Waste}
 use Rattle.waste.specs.declared.Waste.the-variants.{Nowhere, At}
-use Rattle.marker.specs.declared.Marking.{Marking}
-use Rattle.marker.specs.declared.Marking.the-variants.{Wasteful}
+use Rattle.answers.specs.declared.Marking.{Marking}
+use Rattle.answers.specs.declared.Marking.the-variants.{Wasteful}
 use Rattle.waste.specs.Wastes.{Tells}
 use Rattle.marker.specs.Steps.{fairMark, MarkedAs, Markable}
 use Rattle.dayfile.proofs.Used.{cell-in}

@@ -19,9 +19,10 @@ use Rattle.dayfile.specs.Table.{Refusal, firstOf, readLines, markerLines, sheet
 use Rattle.dayfile.specs.Outcome.{answer, unless, NoneHolds}
 use Rattle.dayfile.proofs.Answers.{defined, tells-refusal, tells-answer}
 use Rattle.dayfile.proofs.Lines.{none-holds, none-parts, none-first-of}
-use Rattle.marker.specs.declared.Marking.{Marking}
-use Rattle.marker.specs.declared.Marking.the-variants.{Improvable}
-use Rattle.marker.specs.Marking.{markedSheet, markFile, told, results, movesIn, BufferAfter, Passing, Marks}
+use Rattle.answers.specs.declared.Marking.{Marking}
+use Rattle.answers.specs.declared.Marking.the-variants.{Improvable}
+use Rattle.answers.specs.Answers.{told}
+use Rattle.marker.specs.Marking.{markedSheet, markFile, results, movesIn, BufferAfter, Passing, Marks}
 use Rattle.lawful.proofs.Accepted.{accepted-sheet, accepted-lawful}
 use Rattle.marker.proofs.Decode.{moves-in-front}
 

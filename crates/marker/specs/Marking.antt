@@ -9,36 +9,18 @@ use Rattle.model.specs.Book.{Book, Grid}
 use Rattle.model.specs.Search.{Found, PathOn}
 use Rattle.model.specs.Marks.{Mark, wasteful, improvable, tied, settled, Result, markOf, resultOf, moveBytes}
 use Rattle.dayfile.specs.Layout.{bookOf}
-use Rattle.dayfile.specs.Table.{refuse, markLines}
+use Rattle.dayfile.specs.Table.{markLines}
 use Rattle.dayfile.specs.Outcome.{Outcome, turnedAway, answer, outcome, Defined}
 use Rattle.dayfile.specs.Memory.{front}
 pub use Rattle.dayfile.specs.Layout.{markedSheet}
-use Rattle.marker.specs.declared.Numbers.{Numbers}
-use Rattle.marker.specs.declared.Marking.{Marking}
-use Rattle.marker.specs.declared.Marking.the-variants.{Refused, Wasteful, Improvable, Tied, Settled}
+use Rattle.answers.specs.declared.Marking.{Marking}
+use Rattle.answers.specs.Answers.{told}
 
 -- the mark of a file, or its refusal, where the output buffer has `room` bytes
 unfoldable pub markFile : List ℕ → ℕ → Outcome Mark
 markFile f room = outcome (markLines f room) (markOf (bookOf f) (markedSheet f))
 
--- ---- the answer: paper 01's numbers and values of each case
-
-abbrev pub told : Marking → Outcome Result
-told (Refused number at) = turnedAway (refuse number at)
-told (Wasteful window seat) = answer (record { mark = 1; window = window; seat = seat; moves = 0 })
-told (Improvable moves) = answer (record { mark = 2; window = 0; seat = 0; moves = moves })
-told (Tied moves) = answer (record { mark = 3; window = 0; seat = 0; moves = moves })
-told Settled = answer (record { mark = 4; window = 0; seat = 0; moves = 0 })
-
--- the same in memory: of a refusal its number and its offset; what an answer does not use is 0
-abbrev pub numbersOf : Outcome Result → Numbers
-numbersOf (turnedAway q) = record { refusal = q .number; offset = q .at; mark = 0; window = 0; seat = 0; moves = 0 }
-numbersOf (answer x) =
-    record { refusal = 0; offset = 0; mark = x .mark; window = x .window; seat = x .seat; moves = x .moves }
-
-abbrev pub resultIn : Numbers → Result
-resultIn n = record { mark = n .mark; window = n .window; seat = n .seat; moves = n .moves }
-
+-- the same in numbers
 abbrev pub results : Outcome Mark → Outcome Result
 results (turnedAway q) = turnedAway q
 results (answer m) = answer (resultOf m)

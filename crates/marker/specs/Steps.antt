@@ -12,8 +12,9 @@ use Rattle.dayfile.specs.Bounds.{Fit}
 use Rattle.dayfile.specs.Outcome.{answer}
 use Rattle.dayfile.specs.Memory.{bookIn, cellsIn}
 use Rattle.dayfile.specs.declared.Book as Memory
-use Rattle.marker.specs.declared.Marking.{Marking}
-use Rattle.marker.specs.Marking.{told, BufferAfter}
+use Rattle.answers.specs.declared.Marking.{Marking}
+use Rattle.answers.specs.Answers.{told}
+use Rattle.marker.specs.Marking.{BufferAfter}
 
 -- the mark of a sheet that is not wasteful: the first that holds of 2, 3, 4
 unfoldable pub fairMark : Book → Grid → Mark

@@ -8,9 +8,9 @@ ghost use Rattle.model.specs.Marks.{markOf};
 ghost use Rattle.dayfile.specs.Table.{movesRoom};
 ghost use Rattle.dayfile.specs.Memory.{bookIn, cellsIn, Reads};
 ghost use Rattle.instance.specs.Terms.{instanceIn, Told, Shows, Small};
-ghost use Rattle.dayfile.specs.Outcome.{answer};
-ghost use Rattle.marker.specs.Marking.{told, numbersOf, Marks};
+ghost use Rattle.marker.specs.Marking.{Marks};
 ghost use Rattle.marker.specs.Steps.{fairMark, MarkedAs, Markable};
+use answers::Marking;
 use dayfile::Book;
 use dayfile::Check;
 use dayfile::Reading;
@@ -24,62 +24,6 @@ use waste::Waste;
 use waste::wasted;
 
 pub mod moves;
-
-// What the marker says: a refusal, or one of the four marks, with numbers counted from 1.
-pub enum Marking {
-    Refused { number: u8, at: usize },
-    Wasteful { window: usize, seat: usize },
-    Improvable { moves: usize },
-    Tied { moves: usize },
-    Settled,
-}
-
-// An answer in numbers: a refusal's number and offset, or a mark and what comes with it. What an answer does not use is 0.
-pub struct Numbers {
-    pub refusal: u8,
-    pub offset: usize,
-    pub mark: u8,
-    pub window: usize,
-    pub seat: usize,
-    pub moves: usize,
-}
-
-impl Numbers {
-    // The numbers of a mark.
-    fn of_mark(mark: u8, window: usize, seat: usize, moves: usize) -> Numbers
-        ensures { λ r. ⌜ r ≡ numbersOf (answer (record { mark = mark; window = window; seat = seat; moves = moves })) ⌝ }
-    {
-        Numbers {
-            refusal: 0,
-            offset: 0,
-            mark,
-            window,
-            seat,
-            moves,
-        }
-    }
-}
-
-impl Marking {
-    pub fn numbers(self) -> Numbers
-        ensures { λ r. ⌜ r ≡ numbersOf (told self) ⌝ }
-    {
-        match self {
-            Marking::Refused { number, at } => Numbers {
-                refusal: number,
-                offset: at,
-                mark: 0,
-                window: 0,
-                seat: 0,
-                moves: 0,
-            },
-            Marking::Wasteful { window, seat } => Numbers::of_mark(1, window, seat, 0),
-            Marking::Improvable { moves } => Numbers::of_mark(2, 0, 0, moves),
-            Marking::Tied { moves } => Numbers::of_mark(3, 0, 0, moves),
-            Marking::Settled => Numbers::of_mark(4, 0, 0, 0),
-        }
-    }
-}
 
 // Marks 2 to 4, of a sheet that is not wasteful.
 fn mark_full(cells: &Caps, caps: &Caps, t: Terms, moves: &mut [u8]) -> Marking

@@ -1,2 +1,2 @@
--- Laws of the reader.
-pub mod Products
+-- Laws of arrays that are filled from a file.
+pub mod Filling

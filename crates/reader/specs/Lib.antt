@@ -1,2 +1,2 @@
 -- What contracts between the reader's functions cite.
-pub mod Entries
+pub mod Arrays

@@ -1,11 +1,11 @@
 // Damaged files and books through all calls: their refusals agree, and none changes a byte.
+use answers::Marking;
 use dayfile::Book;
 use dayfile::Check;
 use dayfile::Day;
 use dayfile::Written;
 use lawful::MOVES_ROOM;
 use listing::LISTING_MAX;
-use marker::Marking;
 use say::all_from;
 use say::front;
 use sheet::Caps;
@@ -138,7 +138,7 @@ pub fn see_write(book: Book, caps: Caps, out: &mut [u8]) -> Seen {
         },
         Written::Whole { length } => Seen {
             number: 0,
-            right: sound(reader::read_check(front(out, length))) && all_from(out, length, 255),
+            right: sound(sound::check(front(out, length))) && all_from(out, length, 255),
         },
     }
 }

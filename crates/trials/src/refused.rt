@@ -140,7 +140,7 @@ fn write_with(book: Book, caps: Caps, short: bool) -> Seen {
 
 // A damaged file through marker, planner, listing, and reader and writer. Now and then a buffer is too short.
 fn judge_file(refusals: Refusals, file: &[u8], short: bool) -> Refusals {
-    let first = reader::read_check(file);
+    let first = sound::check(file);
     let seen = refusals.marked(mark_with(file, first, short));
     let seen = seen.planned(plan_with(file, first, short));
     let refused = mark_with(file, first, false).number != 0;

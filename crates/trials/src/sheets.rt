@@ -1,11 +1,11 @@
 // Every sheet of a small book, marked, and what the marker says held against the rules; and the same of the planned sheet.
 use crate::calls::kept;
 use crate::tally::Tally;
+use answers::Marking;
 use dayfile::Book;
 use dayfile::Day;
 use dayfile::Written;
 use lawful::MOVES_ROOM;
-use marker::Marking;
 use oracle::Small;
 use oracle::memory::book_of;
 use oracle::memory::cells_of;

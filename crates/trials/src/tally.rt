@@ -1,5 +1,5 @@
 // What was seen of small books.
-use marker::Marking;
+use answers::Marking;
 use say::say_number;
 use say::say_text;
 

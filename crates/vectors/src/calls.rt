@@ -1,10 +1,10 @@
 // What each call of the library says, and its output buffer afterwards.
 use crate::numbers;
+use answers::Marking;
 use dayfile::Book;
 use dayfile::Check;
 use dayfile::Day;
 use dayfile::Written;
-use marker::Marking;
 use say::front;
 use say::say_hex;
 use say::say_number;

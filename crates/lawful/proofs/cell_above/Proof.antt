@@ -3,7 +3,7 @@ use borrow.Author.Needs.{needs}
 use mathlib.Core.Path.{_∙_}
 use native.Mathlib.Omega.{arith}
 use Rattle.dayfile.proofs.Answers.{at-line, no-line, under-at}
-use Rattle.reader.proofs.Products.{small}
+use Rattle.fields.proofs.Products.{small}
 use Rattle.lawful.proofs.Sheets.{above-as, none-above}
 use Rattle.lawful.proofs.cell_above.Statement.{statement}
 use Rattle.lawful.proofs.cell_above.Tie as tie

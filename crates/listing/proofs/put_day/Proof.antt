@@ -2,7 +2,7 @@
 use borrow.Author.Needs.{needs}
 use Prim.Native.Nat.{_≤_}
 use Rattle.sheet.specs.Sheets.{gridOf}
-use Rattle.marker.specs.Marking.{resultIn}
+use Rattle.answers.specs.Answers.{resultIn}
 use Rattle.dayfile.proofs.Used.{range-in}
 use Rattle.listing.proofs.Memory.{in-memory}
 use Rattle.listing.proofs.put_day.Statement.{statement}

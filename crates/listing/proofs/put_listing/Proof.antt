@@ -3,7 +3,7 @@ use borrow.Author.Needs.{needs}
 use mir.Syntax.{w8, w16, w32}
 use Rattle.lists.specs.Buffers.{Room}
 use Rattle.lists.proofs.Buffers.{room-first, room-next, stored-next}
-use Rattle.marker.specs.Marking.{resultIn}
+use Rattle.answers.specs.Answers.{resultIn}
 use Rattle.lines.proofs.Bounds.{below}
 use Rattle.lines.proofs.Fronts.{front-room, printed}
 use Rattle.listing.specs.Listing.{listingText}

@@ -1,7 +1,7 @@
 -- `listing::put_text` meets its contract: the line of a refusal, or the listing of a mark with its moves.
 use mathlib.Core.Path.{refl}
 use borrow.Author.Needs.{needs}
-use Rattle.marker.proofs.Telling.{refusal-told, result-told}
+use Rattle.answers.proofs.Telling.{refusal-told, result-told}
 use Rattle.listing.proofs.Listed.{refused-text, fits-here, few, day-listed}
 use Rattle.listing.proofs.put_text.Statement.{statement}
 use Rattle.listing.proofs.put_text.Tie as tie

@@ -7,12 +7,12 @@ use Rattle.reader.proofs.read.Tie as tie
 returns : tie.Need-returns
 returns c =
     let b = c .before .before in
-    reads-refused _ _ _ _ (refuses (b .before .before .read-check .ensures) (b .number .given .1)) (c .no-day .ensures)
+    reads-refused _ _ _ _ (refuses (b .before .before .check .ensures) (b .number .given .1)) (c .no-day .ensures)
 
 returns-2 : tie.Need-returns-2
 returns-2 c =
     let b = c .before in
-    reads-day _ _ (passes (b .before .before .read-check .ensures) (b .enum-told .given .1)) (c .day-of .ensures)
+    reads-day _ _ (passes (b .before .before .check .ensures) (b .enum-told .given .1)) (c .day-of .ensures)
 
 pub read-spec : {M : Type 1} → statement M
 read-spec =

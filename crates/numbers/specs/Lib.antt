@@ -1,4 +1,0 @@
--- What crosses to C.
-pub mod Numbers
--- What the parts hand to each other.
-pub mod Steps

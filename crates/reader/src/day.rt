@@ -1,0 +1,105 @@
+// The day of a file, as its bodies stand: of a file that is turned away this says nothing.
+ghost use mathlib.Core.Path.{_≡_};
+ghost use mathlib.Core.List.{[]};
+ghost use mathlib.Core.Option.{none, some};
+ghost use Prim.Native.Nat.{_<_};
+ghost use Rattle.model.specs.Lowest.{getOr, isSome, andThen};
+ghost use Rattle.sheet.specs.Sheets.{gridOf};
+ghost use Rattle.dayfile.specs.Layout.{seatsIn, windowsIn, gridIn, bookOf, sheetOf};
+ghost use Rattle.dayfile.specs.Memory.{Holds, Under, found, sized, held, noBook};
+use crate::arrays::array24;
+use crate::arrays::array32;
+use crate::arrays::grid;
+use crate::arrays::no_grid;
+use dayfile::Book;
+use dayfile::Day;
+use dayfile::Found;
+use fields::entry_of;
+use fields::seats;
+use fields::start;
+use fields::windows;
+use sheet::Sheet;
+
+// The book, but for its caps.
+fn book_of(file: &[u8]) -> Book
+    ensures seats { λ r. ⌜ r .seats ≡ seatsIn (now (file .entry)) ⌝ }
+    ensures windows { λ r. ⌜ r .windows ≡ windowsIn (now (file .entry)) ⌝ }
+    ensures classes { λ r. ⌜ r .classes ≡ sized 32 (bookOf (now (file .entry)) .classes) ⌝ }
+    ensures supplies { λ r. ⌜ r .supplies ≡ sized 24 (bookOf (now (file .entry)) .supplies) ⌝ }
+{
+    let seats = seats(file);
+    let windows = windows(file);
+    let classes = array32(file, start(file, 0), seats);
+    let supplies = array24(file, start(file, 1), windows);
+    Book {
+        seats,
+        windows,
+        classes,
+        supplies,
+    }
+}
+
+// The grid that is the body of entry e.
+fn grid_of(file: &[u8], e: usize) -> Sheet
+    requires { ⌜ e < 65536 ⌝ }
+    ensures { λ r. ⌜ gridOf r ≡ held (gridIn (now (file .entry)) e) ⌝ }
+{
+    grid(file, start(file, e), seats(file), windows(file))
+}
+
+// The sheet that is the body of an entry; all cells are 0 where there is none.
+fn sheet_of(file: &[u8], entry: Found) -> Sheet
+    requires { ⌜ Under 65536 (found entry) ⌝ }
+    ensures { λ r. ⌜ gridOf r ≡ held (getOr (andThen (found entry) (λ e. some (gridIn (now (file .entry)) e))) []) ⌝ }
+{
+    if let Found::At(e) = entry {
+        return grid_of(file, e);
+    }
+    no_grid()
+}
+
+// Whether there is an entry.
+fn is_there(entry: Found) -> bool
+    ensures { λ r. ⌜ r ≡ isSome (found entry) ⌝ }
+{
+    if let Found::At(_) = entry {
+        true
+    } else {
+        false
+    }
+}
+
+// The day of a file. Each part that may be missing has its entry looked up once.
+pub fn day_of(file: &[u8]) -> Day
+    ensures { λ r. ⌜ Holds (bookOf (now (file .entry))) (sheetOf (now (file .entry))) r ⌝ }
+{
+    let book = book_of(file);
+    let caps = grid_of(file, 2);
+    let entry = entry_of(file, 4);
+    let has_sheet = is_there(entry);
+    let sheet = sheet_of(file, entry);
+    Day {
+        book,
+        caps,
+        has_sheet,
+        sheet,
+    }
+}
+
+// A day of zeros.
+pub fn no_day() -> Day
+    ensures { λ r. ⌜ Holds noBook none r ⌝ }
+{
+    let book = Book {
+        seats: 0,
+        windows: 0,
+        classes: [0u16; 32],
+        supplies: [0u16; 24],
+    };
+    Day {
+        book,
+        caps: no_grid(),
+        has_sheet: false,
+        sheet: no_grid(),
+    }
+}

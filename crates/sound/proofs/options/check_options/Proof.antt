@@ -1,0 +1,11 @@
+use mathlib.Core.Path.{refl}
+use Rattle.dayfile.specs.Table.{optionLines}
+use Rattle.sound.proofs.options.check_options.Statement.{statement}
+use Rattle.sound.proofs.options.check_options.Tie as tie
+
+returns : tie.Need-returns
+unfolding optionLines
+returns c = refl
+
+pub check-options-spec : {M : Type 1} → statement M
+check-options-spec = tie.close (tie.spec returns)

@@ -1,0 +1,2 @@
+-- What contracts between the functions that check a file cite.
+pub mod Entries
