@@ -1,9 +1,7 @@
 -- Paper 01's fee classes, and the weight of each.
 use mathlib.Core.Path.{_≡_}
-use mathlib.Core.Bool.{Bool, true, _&&_}
 use mathlib.Core.List.{List, [], _∷_}
 use Prim.Native.Nat.{ℕ, _-_, _≤_}
-use lib.Dec.{leb, ltb}
 use lib.ListN.{getD}
 
 -- the weights of classes 1 to 8
@@ -19,8 +17,3 @@ pub record ClassWeight (class r : ℕ) : Type 0 where
   pub exact : r ≡ weightOf class
   pub least : 1 ≤ r
   pub most : r ≤ 40
-
--- the rule of a table of weights: each is 1 to 1,000 and greater than the one before it; at the head of the table, low is 0
-abbrev pub rising : ℕ → List ℕ → Bool
-rising low [] = true
-rising low (x ∷ xs) = ltb low x && (leb x 1000 && rising x xs)
