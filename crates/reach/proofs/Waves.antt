@@ -12,7 +12,7 @@ use Rattle.masks.proofs.Machine.{lowest-is}
 use lib.Count.{trailingZeros}
 use Rattle.reach.specs.declared.Graph.{Graph}
 use Rattle.reach.specs.declared.Wave.{Wave}
-use Rattle.reach.specs.Graphs.{setAt, Through, UnionOver, Takes, Reach, Reached, Spread, Grown}
+use Rattle.reach.specs.Graphs.{setAt, Leads, Through, UnionOver, Takes, Reach, Reached, Spread, Grown}
 use Rattle.reach.proofs.Members.{at-small}
 
 module _ (graph : Graph) (g : ℕ) where
@@ -73,7 +73,9 @@ module _ (graph : Graph) (g : ℕ) where
     -- a seat in front has room in a window, and l holds a credit there
     step : (l : ℕ) (held : Through left (graph .holders) l) → Through (w .front) (graph .rooms) (held .via) → Reach graph (suc n) g l
     step l held k =
-        let takes : Takes graph (k .via) l = record { via = held .via; here = record { member = k .here .leads; leads = held .here .leads } } in
+        let here : Leads (setAt (graph .rooms) (k .via)) (graph .holders) l (held .via) =
+        record { member = k .here .leads; leads = held .here .leads } in
+        let takes : Takes graph (k .via) l = record { via = held .via; here = here } in
         inr (k .via, (s .layer (k .via) .0 (in-seen (k .via) (k .here .member)), takes))
 
     new : (l : ℕ) → Through left (graph .holders) l → Reach graph (suc n) g l

@@ -45,14 +45,14 @@ loop-again c =
     let total = c .before .before .before .before .before in
     let at = total .before .before .before .loop in
     let a = total .before .before .before .before .before .before .before .args in
-    let cells = getD (a .grid .now) (at .seat) [] in
-    let more = c .with-holder .result in (
+    let held = held-next (a .grid .now) (a .t .windows) (at .seat) (at .holders) (c .with-holder .result) in
+    let cells = getD (a .grid .now) (at .seat) [] in (
       filled-next (at .inv .0) (search needs) (omega (arith, total .row-total .ensures .0)),
       (
         filled-next (at .inv .1 .0) (search needs) (c .before .before .below .ensures),
         (
           search needs,
-          held-next (a .grid .now) (a .t .windows) (at .seat) (at .holders) more cells (at .inv .1 .1 .1) (λ w. refl) (c .with-holder .ensures),
+          held cells (at .inv .1 .1 .1) (λ w. refl) (c .with-holder .ensures),
         ),
       ),
     )
@@ -65,7 +65,8 @@ find-requires c κs =
     let p = start .pre in
     let scores = scored (a .grid .now) (a .caps .now) (a .t) (at .seat) _ (at .heights) (search needs) (at .inv .0) in (
       p .0 .ranged .seats-most,
-      bounded (a .t) (a .caps .now) (a .grid .now) _ (p .0) (p .1) (scores _ _ (told-in (a .t) (a .caps .now)) (shows-itself (a .t) (a .grid .now))),
+      bounded (a .t) (a .caps .now) (a .grid .now) _ (p .0) (p .1)
+          (scores _ _ (told-in (a .t) (a .caps .now)) (shows-itself (a .t) (a .grid .now))),
     )
 
 returns : tie.Need-returns Inv-loop μ-loop
@@ -75,10 +76,12 @@ returns c =
     let a = start .args in
     let scores = scored (a .grid .now) (a .caps .now) (a .t) (at .seat) _ (at .heights) (search needs) (at .inv .0) in
     let e : at .seat ≡ a .t .seats = omega (arith, at .inv .0 .within) in
-    let rooms : Rows (a .t .seats) (HasRoom (a .grid .now) (a .caps .now) (a .t .windows)) (at .rooms) = rows-end (at .inv .1 .0) (search needs) in
+    let room = HasRoom (a .grid .now) (a .caps .now) (a .t .windows) in
+    let rooms : Rows (a .t .seats) room (at .rooms) = rows-end (at .inv .1 .0) (search needs) in
     let graph : Graph = record { rooms = at .rooms; holders = at .holders } in
     let moves = drawn (a .grid .now) (a .caps .now) (a .t) graph rooms (rw e at (at .inv .1 .1 .1)) in
-    finds-right (a .t) (a .caps .now) (a .grid .now) (start .pre .0 .ranged) _ graph scores moves (c .find .result .kind) _ (c .find .ensures)
+    finds-right (a .t) (a .caps .now) (a .grid .now) (start .pre .0 .ranged) _ graph scores moves
+    (c .find .result .kind) _ (c .find .ensures)
 
 pub find-path-spec : {M : Type 1} → statement M
 find-path-spec =

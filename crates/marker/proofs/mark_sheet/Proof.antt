@@ -18,6 +18,12 @@ returns c =
     let w = c .before .before .before in
     waste-marked _ _ _ _ (tells _ _ (w .wasted .ensures) (c .before .window .given .1)) _
 
+terms-of-requires : tie.Need-terms-of-requires
+terms-of-requires c κs =
+    let w = c .before .before .before .before in
+    let k = w .before .before .before .before in
+    (k .args .t2, k .pre .0 .fit)
+
 mark-full-requires : tie.Need-mark-full-requires
 mark-full-requires c κs =
     let t = c .before in
@@ -39,4 +45,4 @@ pub mark-sheet-spec : {M : Type 1} → statement M
 mark-sheet-spec =
     tie.close (tie.spec (λ c κs. range-in _ _ (c .before .before .before .pre .0 .fit)) (λ c. search needs) (λ c. omega (arith, small c))
     (λ c. omega (arith, small c)) returns (λ c. search needs)
-    (λ c κs. let k = c .before .before .before .before .before .before .before .before in (k .args .t2, k .pre .0 .fit)) mark-full-requires (λ c. search needs) returns-2)
+    terms-of-requires mark-full-requires (λ c. search needs) returns-2)

@@ -29,8 +29,9 @@ find-path-requires c κs = (c .before .before .pre .0, c .before .loop .inv .fea
 -- what the path of a turn is
 answers : (c : tie.After-find-path Inv-loop μ-loop) →
     let b = c .before .before .before in
+    let S = cell (c .before .before .loop .grid) in
     let x = c .find-path .result in
-    Answers (instanceIn (b .args .t) (b .args .caps .now)) (cell (c .before .before .loop .grid)) (x .kind) (x .receiver) (x .donor) (movesOf x)
+    Answers (instanceIn (b .args .t) (b .args .caps .now)) S (x .kind) (x .receiver) (x .donor) (movesOf x)
 answers c =
     let b = c .before .before .before in
     c .find-path .ensures .1 _ _ (told-in (b .args .t) (b .args .caps .now)) (shows-itself (b .args .t) (c .before .before .loop .grid))
@@ -43,28 +44,32 @@ returns : tie.Need-returns Inv-loop μ-loop
 returns c =
     let n = c .before .before in
     let b = n .before .before .before in
-    let last = turn-last (b .args .t) (b .args .caps .now) (b .pre .0) (n .before .before .loop .grid) (n .before .before .loop .inv) in
+    let l = n .before .before .loop in
+    let last = turn-last (b .args .t) (b .args .caps .now) (b .pre .0) (l .grid) (l .inv) in
     last (n .find-path .result) (answers n) (c .enum-told .given .1)
 
 play-path-requires : tie.Need-play-path-requires Inv-loop μ-loop
 play-path-requires c κs =
     let n = c .before .before in
     let b = n .before .before .before in
-    let playable = turn-playable (b .args .t) (b .args .caps .now) (b .pre .0) (n .before .before .loop .grid) (n .before .before .loop .inv) in
+    let l = n .before .before .loop in
+    let playable = turn-playable (b .args .t) (b .args .caps .now) (b .pre .0) (l .grid) (l .inv) in
     (n .find-path .ensures .0, playable (n .find-path .result) (answers n) (there (c .before)))
 
 loop-less : tie.Need-loop-less Inv-loop μ-loop
 loop-less c =
     let n = c .before .before .before in
     let b = n .before .before .before in
-    let less = turn-less (b .args .t) (b .args .caps .now) (b .pre .0) (n .before .before .loop .grid) (n .before .before .loop .inv) in
+    let l = n .before .before .loop in
+    let less = turn-less (b .args .t) (b .args .caps .now) (b .pre .0) (l .grid) (l .inv) in
     less (n .find-path .result) (answers n) (there (c .before .before)) _ (c .play-path .ensures)
 
 loop-again : tie.Need-loop-again Inv-loop μ-loop
 loop-again c =
     let n = c .before .before .before in
     let b = n .before .before .before in
-    let full = turn-full (b .args .t) (b .args .caps .now) (b .pre .0) (n .before .before .loop .grid) (n .before .before .loop .inv) in
+    let l = n .before .before .loop in
+    let full = turn-full (b .args .t) (b .args .caps .now) (b .pre .0) (l .grid) (l .inv) in
     full (n .find-path .result) (answers n) (there (c .before .before)) _ (c .play-path .ensures)
 
 pub settle-spec : {M : Type 1} → statement M

@@ -25,8 +25,8 @@ add-result-2 c =
 returns : tie.Need-returns
 returns c caps sheet =
     let s = c .before .before in
-    length-told (s .before .args .book) caps (s .before .args .has-sheet) sheet (s .slots-of .ensures) (c .before .count-entries .ensures .0)
-    (c .count-fields .ensures)
+    let a = s .before .args in
+    length-told (a .book) caps (a .has-sheet) sheet (s .slots-of .ensures) (c .before .count-entries .ensures .0) (c .count-fields .ensures)
 
 pub file-length-spec : {M : Type 1} → statement M
 file-length-spec =

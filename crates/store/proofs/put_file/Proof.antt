@@ -19,7 +19,8 @@ put-lists-requires c κs =
     let p = c .before .before .before in
     let s = p .before .before .before .before .before in
     let a = s .args in
-    begun-room (contents-put (a .book) (a .caps .now) (a .has-sheet) (a .sheet .now) (now (a .out)) (s .pre .1) (p .before .slots-of .ensures) (p .put-contents .ensures))
+    begun-room (contents-put (a .book) (a .caps .now) (a .has-sheet) (a .sheet .now) (now (a .out)) (s .pre .1)
+    (p .before .slots-of .ensures) (p .put-contents .ensures))
 
 put-rows-requires : tie.Need-put-rows-requires
 put-rows-requires c κs =
@@ -27,7 +28,8 @@ put-rows-requires c κs =
     let p = q .before .before .before .before in
     let s = p .before .before .before .before .before in
     let a = s .args in
-    let b = contents-put (a .book) (a .caps .now) (a .has-sheet) (a .sheet .now) (now (a .out)) (s .pre .1) (p .before .slots-of .ensures) (p .put-contents .ensures) in
+    let b = contents-put (a .book) (a .caps .now) (a .has-sheet) (a .sheet .now) (now (a .out)) (s .pre .1)
+    (p .before .slots-of .ensures) (p .put-contents .ensures) in
     (s .pre .0 .0, begun-room (begun-next b (q .put-lists .ensures)))
 
 put-rows-requires-2 : tie.Need-put-rows-requires-2
@@ -38,7 +40,8 @@ put-rows-requires-2 c κs =
     let s = p .before .before .before .before .before in
     let a = s .args in
     let n = p .before .before .before .size-if .ensures in
-    let b = contents-put (a .book) (a .caps .now) (a .has-sheet) (a .sheet .now) (now (a .out)) (s .pre .1) (p .before .slots-of .ensures) (p .put-contents .ensures) in
+    let b = contents-put (a .book) (a .caps .now) (a .has-sheet) (a .sheet .now) (now (a .out)) (s .pre .1)
+    (p .before .slots-of .ensures) (p .put-contents .ensures) in
     let k = begun-next (begun-next b (q .put-lists .ensures)) (r .put-rows .ensures) in
     (omega (arith, n .1, s .pre .0 .0), sheet-room (a .book) (a .has-sheet) (a .sheet .now) (n .0) (begun-room k))
 
@@ -51,9 +54,11 @@ returns c =
     let s = p .before .before .before .before .before in
     let a = s .args in
     let n = p .before .before .before .size-if .ensures in
-    let b = contents-put (a .book) (a .caps .now) (a .has-sheet) (a .sheet .now) (now (a .out)) (s .pre .1) (p .before .slots-of .ensures) (p .put-contents .ensures) in
+    let b = contents-put (a .book) (a .caps .now) (a .has-sheet) (a .sheet .now) (now (a .out)) (s .pre .1)
+    (p .before .slots-of .ensures) (p .put-contents .ensures) in
     let k = begun-next (begun-next b (q .put-lists .ensures)) (r .put-rows .ensures) in
-    file-front (a .book) (a .caps .now) (a .has-sheet) (a .sheet .now) (now (a .out)) (s .pre .1) (begun-next k (sheet-put (a .book) (a .has-sheet) (a .sheet .now) (n .0) (t .put-rows2 .ensures)))
+    file-front (a .book) (a .caps .now) (a .has-sheet) (a .sheet .now) (now (a .out)) (s .pre .1)
+    (begun-next k (sheet-put (a .book) (a .has-sheet) (a .sheet .now) (n .0) (t .put-rows2 .ensures)))
 
 pub put-file-spec : {M : Type 1} → statement M
 put-file-spec =

@@ -51,8 +51,10 @@ returns-3 c =
     let a = k .before .before .args in
     let d = a .day in
     let p = passes (k .check-day .ensures) (t .enum-told .given .1) in
-    let e = ap₂ (λ (x y : Grid). front (fileWith (d .book) x (d .«has_sheet») y) (now (a .out))) (g .to-grid .ensures) (s .to-grid2 .ensures) in
-    enough d _ _ p (l .file-length .ensures (gridOf (d .caps)) (gridOf (d .sheet))) (i .if1 .left) (f .put-file .ensures .1 ∙ e)
+    let e = ap₂ (λ (x y : Grid). front (fileWith (d .book) x (d .«has_sheet») y) (now (a .out)))
+    (g .to-grid .ensures) (s .to-grid2 .ensures) in
+    let n = l .file-length .ensures (gridOf (d .caps)) (gridOf (d .sheet)) in
+    enough d _ _ p n (i .if1 .left) (f .put-file .ensures .1 ∙ e)
 
 pub write-spec : {M : Type 1} → statement M
 write-spec =
