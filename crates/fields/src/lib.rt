@@ -1,10 +1,13 @@
-// What a day file says in its fields, whether it is turned away or not, and where its bodies lie. A byte past the end counts as 0.
+// What a day file says in its fields, one by one and as arrays, whether it is turned away or not, and where its bodies lie. A byte past
+// the end counts as 0.
 ghost use mathlib.Core.Path.{_≡_};
 ghost use Prim.Native.Nat.{_<_};
 ghost use lib.ListN.{getD};
 ghost use Rattle.dayfile.specs.Layout.{field, count, kind, start, size, ends, entryOf, seatsIn, windowsIn};
 ghost use Rattle.dayfile.specs.Memory.{found, Under};
 use dayfile::Found;
+
+pub mod arrays;
 
 fn wide(x: u8) -> usize
     ensures { λ r. ⌜ (r ≡ x) × (r < 256) ⌝ }

@@ -5,7 +5,6 @@ use day::no_day;
 use dayfile::Check;
 use dayfile::Reading;
 
-mod arrays;
 mod day;
 
 // What a file says: a refusal and a day of zeros, or its day.

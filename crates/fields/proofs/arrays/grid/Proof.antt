@@ -12,9 +12,9 @@ use Rattle.sheet.specs.declared.Row.{Row}
 use Rattle.sheet.proofs.Cells.{set-row}
 use Rattle.dayfile.specs.Layout.{fieldsAt, gridAt}
 use Rattle.dayfile.specs.Memory.{sized, sizedGrid}
-use Rattle.reader.proofs.Filling.{filled-blank, blank-rows}
-use Rattle.reader.proofs.arrays.grid.Statement.{statement}
-use Rattle.reader.proofs.arrays.grid.Tie as tie
+use Rattle.fields.proofs.Filling.{filled-blank, blank-rows}
+use Rattle.fields.proofs.arrays.grid.Statement.{statement}
+use Rattle.fields.proofs.arrays.grid.Tie as tie
 
 abbrev rowOf : List ℕ → ℕ → ℕ → ℕ → List ℕ
 rowOf f at m i = fieldsAt f (at + 2 * (i * m)) m

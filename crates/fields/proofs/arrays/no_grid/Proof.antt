@@ -2,8 +2,8 @@ use mathlib.Core.Path.{refl}
 use Rattle.fairness.specs.Leximin.{table}
 use Rattle.sheet.specs.Sheets.{gridOf}
 use Rattle.dayfile.specs.Memory.{sized, sizedGrid}
-use Rattle.reader.proofs.arrays.no_grid.Statement.{statement}
-use Rattle.reader.proofs.arrays.no_grid.Tie as tie
+use Rattle.fields.proofs.arrays.no_grid.Statement.{statement}
+use Rattle.fields.proofs.arrays.no_grid.Tie as tie
 
 returns : tie.Need-returns
 unfolding gridOf sizedGrid sized table

@@ -7,10 +7,10 @@ use borrow.Author.Needs.{needs}
 use Rattle.dayfile.specs.Layout.{field, fieldsAt}
 use Rattle.dayfile.specs.Memory.{sized}
 use Rattle.lists.proofs.Arrays.{Least}
-use Rattle.reader.specs.Arrays.{Front}
-use Rattle.reader.proofs.Filling.{filled-blank}
-use Rattle.reader.proofs.arrays.fill.Statement.{statement}
-use Rattle.reader.proofs.arrays.fill.Tie as tie
+use Rattle.fields.specs.Arrays.{Front}
+use Rattle.fields.proofs.Filling.{filled-blank}
+use Rattle.fields.proofs.arrays.fill.Statement.{statement}
+use Rattle.fields.proofs.arrays.fill.Tie as tie
 
 -- as many fields as there is room for, in an array of zeros
 in-zeros : (f : List ℕ) (at n : ℕ) {m : ℕ} {before after : List ℕ} → Front f at m before after → Least n (length before) m →

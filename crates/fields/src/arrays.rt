@@ -6,8 +6,8 @@ ghost use lib.ListN.{length, replicate};
 ghost use Rattle.sheet.specs.Sheets.{gridOf};
 ghost use Rattle.dayfile.specs.Layout.{fieldsAt, gridAt};
 ghost use Rattle.dayfile.specs.Memory.{sized, held};
-ghost use Rattle.reader.specs.Arrays.{Front};
-use fields::field;
+ghost use Rattle.fields.specs.Arrays.{Front};
+use crate::field;
 use sheet::Row;
 use sheet::Sheet;
 

@@ -5,9 +5,9 @@ use lib.ListN.{length}
 use borrow.Author.Needs.{needs}
 use Rattle.dayfile.specs.Layout.{field}
 use Rattle.lists.proofs.Arrays.{Filled, filled-first, filled-next}
-use Rattle.reader.proofs.Filling.{filled-whole}
-use Rattle.reader.proofs.arrays.read_fields.Statement.{statement}
-use Rattle.reader.proofs.arrays.read_fields.Tie as tie
+use Rattle.fields.proofs.Filling.{filled-whole}
+use Rattle.fields.proofs.arrays.read_fields.Statement.{statement}
+use Rattle.fields.proofs.arrays.read_fields.Tie as tie
 
 abbrev Inv-loop : tie.InvT-loop
 Inv-loop array₀ file at m i₀ array i =

@@ -1,0 +1,2 @@
+-- What contracts between functions that fill arrays cite.
+pub mod Arrays

@@ -1,2 +1,0 @@
--- Laws of arrays that are filled from a file.
-pub mod Filling

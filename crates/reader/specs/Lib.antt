@@ -1,2 +1,0 @@
--- What contracts between the reader's functions cite.
-pub mod Arrays
