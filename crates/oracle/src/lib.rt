@@ -1,6 +1,7 @@
 // A test oracle: paper 01's rules for small books, anew and in the plainest way. It shares no code with what it is held against.
 //
 // A book has up to 4 seats and 3 windows, a sheet 12 cells, 3 for each seat. Outside the book cells, caps and supplies are 0.
+pub mod marks;
 pub mod memory;
 pub mod numbers;
 pub mod paths;
@@ -9,8 +10,8 @@ pub mod rules;
 pub struct Small {
     pub seats: usize,
     pub windows: usize,
-    pub classes: [u16; 4],
-    pub supplies: [u16; 3],
+    pub classes: [u16; 32],
+    pub supplies: [u16; 24],
     pub caps: [u16; 12],
 }
 
