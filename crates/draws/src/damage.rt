@@ -20,14 +20,6 @@ fn set(file: &mut [u8], at: usize, value: u8) {
     }
 }
 
-// A field whose high byte is 0.
-fn put(file: &mut [u8], at: usize, value: u8)
-    requires { ⌜ at < 1000 ⌝ }
-{
-    set(file, at, value);
-    set(file, at + 1, 0);
-}
-
 fn lesser(a: u16, b: u16) -> u16 {
     if a < b { a } else { b }
 }
@@ -59,13 +51,13 @@ fn draw_written(state: &mut u32, file: &mut [u8]) -> usize {
     put_small(file, s, there, cells)
 }
 
-// An entry of the contents: kind, start and length of a body.
+// An entry of the contents: kind, start and length of a body. The high bytes are 0 already.
 fn put_entry(file: &mut [u8], at: usize, kind: u8, start: u8, size: u8)
     requires { ⌜ at < 100 ⌝ }
 {
-    put(file, at, kind);
-    put(file, at + 2, start);
-    put(file, at + 4, size);
+    set(file, at, kind);
+    set(file, at + 2, start);
+    set(file, at + 4, size);
 }
 
 // Contents whose starts are right, with bodies of any length below 6; the offset where the last body ends.
@@ -73,7 +65,7 @@ fn draw_contents(state: &mut u32, file: &mut [u8], entries: u8) -> u8
     requires { ⌜ entries ≤ 4 ⌝ }
     ensures { λ r. ⌜ r ≤ 46 ⌝ }
 {
-    put(file, 0, entries);
+    set(file, 0, entries);
     let mut end = 2 + 6 * entries;
     for e in 0..entries {
         let size = below(state, 6) as u8;
@@ -134,7 +126,7 @@ fn damage(state: &mut u32, file: &mut [u8], length: usize) -> usize {
     }
 }
 
-// A damaged file at the front of a buffer, and its length.
+// A damaged file at the front of a buffer whose bytes are 0, and its length.
 pub fn draw_file(state: &mut u32, file: &mut [u8]) -> usize {
     if below(state, 4) == 0 {
         return draw_made(state, file);

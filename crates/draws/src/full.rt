@@ -1,27 +1,16 @@
 // Random books of 32 seats and 24 windows.
 use crate::below;
 use crate::draw_classes;
-use crate::draw_supplies;
-use crate::up_to;
+use crate::draw_row;
 use dayfile::Book;
 use dayfile::Day;
 use sheet::Caps;
 
-// A seat's caps, 0 in a third of the windows.
-fn draw_row(state: &mut u32, most: u16) -> [u16; 24] {
-    let mut row = [0u16; 24];
-    for w in 0..24usize {
-        if below(state, 3) != 0 {
-            row[w] = up_to(state, most);
-        }
-    }
-    row
-}
-
+// For each seat its caps, 0 in a third of the windows.
 fn draw_caps(state: &mut u32, most: u16) -> Caps {
     let mut caps = [[0u16; 24]; 32];
     for i in 0..32usize {
-        let row = draw_row(state, most);
+        let row = draw_row(state, 24, most, true);
         caps[i] = row;
     }
     caps
@@ -41,7 +30,7 @@ fn draw_most(state: &mut u32) -> u16 {
 // The book, but for its caps, with supplies that are about what such caps ask for, or less.
 fn draw_book(state: &mut u32, most: u16) -> Book {
     let classes = draw_classes(state, 32, 7);
-    let supplies = draw_supplies(state, 24, if most < 256 { 16 * most } else { 4095 });
+    let supplies = draw_row(state, 24, if most < 256 { 16 * most } else { 4095 }, false);
     Book {
         seats: 32,
         windows: 24,

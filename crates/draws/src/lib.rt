@@ -54,15 +54,29 @@ fn draw_classes(state: &mut u32, n: usize, most: u16) -> [u16; 32]
     classes
 }
 
-// The supplies of n windows.
-fn draw_supplies(state: &mut u32, n: usize, most: u16) -> [u16; 24]
+// A number that is at most `most`, or 0 with no draw.
+pub fn draw_if(state: &mut u32, there: bool, most: u16) -> u16 {
+    if there { up_to(state, most) } else { 0 }
+}
+
+// A number that is at most `most`; with gaps 0 in a third of the cases.
+fn draw_cap(state: &mut u32, most: u16, gaps: bool) -> u16 {
+    if !gaps {
+        return up_to(state, most);
+    }
+    let there = below(state, 3) != 0;
+    draw_if(state, there, most)
+}
+
+// The numbers of n windows.
+fn draw_row(state: &mut u32, n: usize, most: u16, gaps: bool) -> [u16; 24]
     requires { ⌜ n ≤ 24 ⌝ }
 {
-    let mut supplies = [0u16; 24];
+    let mut row = [0u16; 24];
     for w in 0..n {
-        supplies[w] = up_to(state, most);
+        row[w] = draw_cap(state, most, gaps);
     }
-    supplies
+    row
 }
 
 // The length of a day's file, at the front of a buffer; 0 where the writer refuses.

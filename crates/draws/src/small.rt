@@ -1,16 +1,15 @@
 // Random small books.
 use crate::below;
 use crate::draw_classes;
-use crate::draw_supplies;
+use crate::draw_if;
+use crate::draw_row;
 use crate::up_to;
 use oracle::Small;
 
 pub fn draw_cells(state: &mut u32, seats: usize, windows: usize, most: u16) -> [u16; 12] {
     let mut cells = [0u16; 12];
     for k in 0..12usize {
-        if k / 3 < seats && k % 3 < windows {
-            cells[k] = up_to(state, most);
-        }
+        cells[k] = draw_if(state, (k / 3 < seats) & (k % 3 < windows), most);
     }
     cells
 }
@@ -21,7 +20,7 @@ pub fn draw_small(state: &mut u32) -> Small {
     let windows = 1 + below(state, 3) as usize;
     let few = up_to(state, 7);
     let classes = draw_classes(state, 4, few);
-    let supplies = draw_supplies(state, windows, 4);
+    let supplies = draw_row(state, windows, 4, false);
     let most = 1 + up_to(state, 2);
     let caps = draw_cells(state, seats, windows, most);
     Small {

@@ -15,14 +15,19 @@ pub struct Small {
     pub caps: [u16; 12],
 }
 
+// One more, or 0 again above the cap.
+fn next_cell(x: u16, cap: u16) -> u16 {
+    if x < cap { x + 1 } else { 0 }
+}
+
 // The next sheet within the caps, as a number is counted up: false after the last one, and the cells are 0 again.
 pub fn next_sheet(cells: &mut [u16; 12], caps: &[u16; 12]) -> bool {
     for k in 0..12usize {
-        if cells[k] < caps[k] {
-            cells[k] = std::num::wrapping_add_u16(cells[k], 1);
+        let x = next_cell(cells[k], caps[k]);
+        cells[k] = x;
+        if x != 0 {
             return true;
         }
-        cells[k] = 0;
     }
     false
 }

@@ -77,7 +77,7 @@ fn look(reply: Reply, file: &[u8], out: &[u8]) -> Seen {
     let sound = read_check(written);
     Seen {
         reply,
-        kept: reply.length <= out.len() && all_from(out, reply.length, 255),
+        kept: (reply.length <= out.len()) & all_from(out, reply.length, 255),
         letter: first(out),
         same: check::same(written, file),
         sound: sound.taken,

@@ -14,26 +14,26 @@ pub mod refused;
 pub mod sheets;
 pub mod tally;
 
-// The planned file of a file, or the refusal.
-fn say_plan(name: &[u8], file: &[u8]) {
+// The planned file of K11, cut or longer, or the refusal.
+fn say_plan(name: &[u8], length: usize) {
+    let file =
+        b"\x03\x00\x01\x00\x14\x00\x02\x00\x02\x00\x16\x00\x02\x00\x03\x00\x18\x00\x02\x00\x01\x00\x03\x00\x02\x00\x00";
     say_text(name);
     let mut out = [0u8; 40];
-    let r = replied(planner::plan(file, &mut out));
+    let r = replied(planner::plan(front(file, length), &mut out));
     if r.taken {
         say_hex(front(&out, r.length));
-    } else {
-        say_refusal(r.number, r.at);
-        say_text(b"\n");
+        return;
     }
+    say_refusal(r.number, r.at);
+    say_text(b"\n");
 }
 
 // K11, less its last byte, and with one byte more.
 fn k11() {
-    let file =
-        b"\x03\x00\x01\x00\x14\x00\x02\x00\x02\x00\x16\x00\x02\x00\x03\x00\x18\x00\x02\x00\x01\x00\x03\x00\x02\x00\x00";
-    say_plan(b"K11 planned: ", front(file, 26));
-    say_plan(b"K11 less its last byte: ", front(file, 25));
-    say_plan(b"K11 and one byte more: ", front(file, 27));
+    say_plan(b"K11 planned: ", 26);
+    say_plan(b"K11 less its last byte: ", 25);
+    say_plan(b"K11 and one byte more: ", 27);
 }
 
 enum Kind {

@@ -1,5 +1,7 @@
 // Damaged files and books through all calls: their refusals agree, and none changes a byte.
+ghost use Prim.Native.Nat.{_<_};
 use crate::calls::Call;
+use crate::calls::Seen;
 use crate::calls::read_check;
 use crate::calls::see;
 use crate::calls::see_file;
@@ -18,78 +20,71 @@ use say::front;
 // Whether an answer is the reader's; where the reader takes the file, that or a later line's.
 fn agrees(first: Reply, r: Reply) -> bool {
     if first.taken {
-        return r.taken || 12 < r.number;
+        return r.taken | (12 < r.number);
     }
-    !r.taken && r.number == first.number && r.at == first.at
+    !r.taken & (r.number == first.number) & (r.at == first.at)
 }
 
-// The marker's answer, with a buffer that is long enough or a byte short.
-fn judge_mark(tally: Tally, file: &[u8], first: Reply, short: bool) -> Tally {
-    let m = see_file(
-        Call::Mark,
-        file,
-        if short { MOVES_ROOM - 1 } else { MOVES_ROOM },
-    );
-    let r = m.reply;
-    count(tally, 0, r.number as usize, agrees(first, r) && m.kept)
+fn pick(first: bool, a: usize, b: usize) -> usize {
+    if first { a } else { b }
 }
 
-// The planner's answer, with a buffer of 60 or 128 bytes. What it writes gets mark 4.
-fn judge_plan(tally: Tally, file: &[u8], first: Reply, short: bool) -> Tally {
-    let p = see_file(Call::Plan, file, if short { 60 } else { 128 });
-    let r = p.reply;
+// The answer of the marker or the planner. What the planner writes gets mark 4.
+fn judge_call(tally: Tally, column: usize, seen: Seen, first: Reply, writes: bool) -> Tally
+    requires { ⌜ column < 3 ⌝ }
+{
+    let r = seen.reply;
+    let done = !writes | !r.taken | seen.settled;
     count(
         tally,
-        1,
+        column,
         r.number as usize,
-        agrees(first, r) && p.kept && (p.settled || !r.taken),
+        agrees(first, r) & seen.kept & done,
     )
 }
 
-// Whether the listing begins as it must, with `refused` or `seats`.
+// Whether an answer is this refusal, or none where its number is 0.
+fn gives(seen: Seen, number: u8, at: usize) -> bool {
+    let r = seen.reply;
+    seen.kept & (r.taken == (number == 0)) & (r.number == number) & (r.at == at)
+}
+
+// Whether the listing begins as it must, with `refused` or `seats`, and refuses a buffer that is a byte short.
 fn lists(file: &[u8]) -> bool {
     let m = see_file(Call::Mark, file, MOVES_ROOM);
-    let r = m.reply;
     let l = see_file(Call::List, file, LISTING_MAX + 7);
-    let t = l.reply;
-    t.taken && l.kept && l.letter == (if r.taken { b's' } else { b'r' })
+    let short = see_file(Call::List, file, LISTING_MAX - 1);
+    let refused = m.reply;
+    let letter = if refused.taken { b's' } else { b'r' };
+    gives(l, 0, 0) & (l.letter == letter) & gives(short, 16, LISTING_MAX)
 }
 
-// Whether the listing refuses a buffer that is a byte short.
-fn lists_short(file: &[u8]) -> bool {
-    let l = see_file(Call::List, file, LISTING_MAX - 1);
-    let t = l.reply;
-    !t.taken && l.kept && t.number == 16 && t.at == LISTING_MAX
-}
-
-// Whether what was read of a file is written as the same bytes; true where nothing can be read.
-fn written_again(file: &[u8], first: Reply) -> bool {
-    if !first.taken {
-        return true;
-    }
+// Whether what was read of a file is written as the same bytes.
+fn written_again(file: &[u8]) -> bool {
     let w = see_file(Call::Write, file, 128);
-    let t = w.reply;
-    t.taken && w.kept && w.same
+    gives(w, 0, 0) & w.same
 }
 
 // A damaged file through marker, planner, listing, and reader and writer. Now and then a buffer is too short.
 fn judge_file(tally: Tally, file: &[u8], short: bool) -> Tally {
     let first = read_check(file);
-    let seen = judge_mark(tally, file, first, short);
-    let seen = judge_plan(seen, file, first, short);
+    let m = see_file(Call::Mark, file, pick(short, MOVES_ROOM - 1, MOVES_ROOM));
+    let p = see_file(Call::Plan, file, pick(short, 60, 128));
+    let seen = judge_call(tally, 0, m, first, false);
+    let seen = judge_call(seen, 1, p, first, true);
     count(
         seen,
         0,
         17,
-        lists(file) && lists_short(file) && written_again(file, first),
+        lists(file) & (!first.taken | written_again(file)),
     )
 }
 
 // The writer's answer, with a buffer of 60 bytes or one for any file. What it writes, the reader takes.
 fn judge_day(tally: Tally, day: Day, short: bool) -> Tally {
-    let w = see(Call::Write, b"", day, if short { 60 } else { LONGEST_FILE });
+    let w = see(Call::Write, b"", day, pick(short, 60, LONGEST_FILE));
     let r = w.reply;
-    count(tally, 2, r.number as usize, w.kept && (w.sound || !r.taken))
+    count(tally, 2, r.number as usize, w.kept & (w.sound | !r.taken))
 }
 
 // A damaged file, and a damaged book.

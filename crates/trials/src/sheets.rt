@@ -27,9 +27,9 @@ const SHEETS: u32 = 16777216;
 fn best_of(s: Small) -> [u64; 8] {
     let caps = s.caps;
     let mut cells = [0u16; 12];
-    let mut best = rank_of(s, cells);
+    let mut best = rank_of(s, &cells);
     for _ in 0..SHEETS {
-        let next = better(best, s, cells);
+        let next = better(best, s, &cells);
         best = next;
         if !next_sheet(&mut cells, &caps) {
             return best;
@@ -63,7 +63,7 @@ fn judge_mark(s: Small, best: [u64; 8], cells: [u16; 12], file: &[u8]) -> Verdic
     Verdict {
         mark: m.mark,
         moves: m.moves,
-        right: rightly_marked(s, best, cells, told, &moves) && kept(&moves, m.moves),
+        right: rightly_marked(s, best, cells, told, &moves) & kept(&moves, m.moves),
     }
 }
 
@@ -81,7 +81,7 @@ fn judge_sheets(tally: Tally, s: Small, best: [u64; 8]) -> Tally {
     let mut seen = tally;
     let mut cells = [0u16; 12];
     for _ in 0..SHEETS {
-        if feasible(s, cells) {
+        if feasible(s, &cells) {
             let next = judge_sheet(seen, s, best, cells);
             seen = next;
         }
@@ -107,7 +107,7 @@ fn judge_plan(s: Small, best: [u64; 8]) -> bool {
     let end = plan_day(Day::new(book_of(s), caps, false, caps), &mut out);
     let file = front(&out, end);
     let v = judge_mark(s, best, cells_in(file), file);
-    v.mark == 4 && v.right
+    (v.mark == 4) & v.right
 }
 
 // A random small book, planned, and each of its feasible sheets marked.

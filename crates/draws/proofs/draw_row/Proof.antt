@@ -1,16 +1,16 @@
 use Prim.Native.Nat.{_-_, _≤_}
 use borrow.Author.Needs.{needs}
-use Rattle.draws.proofs.draw_supplies.Statement.{statement}
-use Rattle.draws.proofs.draw_supplies.Tie as tie
+use Rattle.draws.proofs.draw_row.Statement.{statement}
+use Rattle.draws.proofs.draw_row.Tie as tie
 
 abbrev Inv-loop : tie.InvT-loop
-Inv-loop state₀ n most supplies₀ w₀ state supplies w = w ≤ n
+Inv-loop state₀ n most gaps row₀ w₀ state row w = w ≤ n
 
 abbrev μ-loop : tie.MeasureT-loop
-μ-loop state₀ n most supplies₀ w₀ state supplies w = n - w
+μ-loop state₀ n most gaps row₀ w₀ state row w = n - w
 
-pub draw-supplies-spec : {M : Type 1} → statement M
-draw-supplies-spec =
+pub draw-row-spec : {M : Type 1} → statement M
+draw-row-spec =
     tie.close
     (tie.spec
     Inv-loop
