@@ -26,6 +26,19 @@ pub fn say_hex(bytes: &[u8]) {
     say_text(b"\n");
 }
 
+pub fn say_buffer(out: &[u8]) {
+    say_text(b", buffer ");
+    say_hex(out);
+}
+
+// A number with its name; nothing where it is 0.
+pub fn say_named(name: &[u8], n: usize) {
+    if n != 0 {
+        say_text(name);
+        say_number(n);
+    }
+}
+
 pub fn say_refusal(number: u8, at: usize) {
     say_text(b"refused ");
     say_number(number as usize);

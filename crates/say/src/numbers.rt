@@ -105,26 +105,13 @@ pub fn product(n: usize, m: usize) -> usize
     n * m
 }
 
-// 32 numbers from a place on.
-pub fn column(numbers: &[u8], place: usize) -> [u16; 32]
-    requires { ⌜ place < 65536 ⌝ }
-{
-    let mut column = [0u16; 32];
-    for i in 0..32usize {
-        column[i] = at(numbers, place + i);
+// Numbers from a place on, as many as there is room for.
+pub fn fill(numbers: &[u8], place: usize, out: &mut [u16]) {
+    let mut i = 0;
+    while i < out.len() {
+        out[i] = at(numbers, std::num::wrapping_add_usize(place, i));
+        i += 1;
     }
-    column
-}
-
-// 24 numbers from a place on.
-pub fn row(numbers: &[u8], place: usize) -> [u16; 24]
-    requires { ⌜ place < 9000000000 ⌝ }
-{
-    let mut row = [0u16; 24];
-    for w in 0..24usize {
-        row[w] = at(numbers, place + w);
-    }
-    row
 }
 
 // Rows of so many windows, from a place on.
@@ -133,8 +120,8 @@ pub fn grid(numbers: &[u8], place: usize, windows: usize) -> Caps
 {
     let mut grid = [[0u16; 24]; 32];
     for i in 0..32usize {
-        let start = place + product(i, windows);
-        let row = row(numbers, start);
+        let mut row = [0u16; 24];
+        fill(numbers, place + product(i, windows), &mut row);
         grid[i] = row;
     }
     grid

@@ -1,4 +1,4 @@
-// What each call of the library says of a line. Each tells whether the output buffer is to be shown.
+// What each call of the library says, and its output buffer afterwards.
 use dayfile::Book;
 use dayfile::Day;
 use marker::Numbers;
@@ -6,7 +6,8 @@ use say::checked;
 use say::front;
 use say::numbers;
 use say::replied;
-use say::say_number;
+use say::say_buffer;
+use say::say_named;
 use say::say_refusal;
 use say::say_reply;
 use say::say_text;
@@ -22,8 +23,10 @@ pub fn day_in(numbers: &[u8]) -> Day {
     let seats = numbers::wide(numbers, 2);
     let windows = numbers::wide(numbers, 3);
     let cells = numbers::product(seats, windows);
-    let classes = numbers::column(numbers, 4);
-    let supplies = numbers::row(numbers, 4 + seats);
+    let mut classes = [0u16; 32];
+    numbers::fill(numbers, 4, &mut classes);
+    let mut supplies = [0u16; 24];
+    numbers::fill(numbers, 4 + seats, &mut supplies);
     let caps = numbers::grid(numbers, 4 + seats + windows, windows);
     let sheet = numbers::grid(numbers, 4 + seats + windows + cells, windows);
     let book = Book {
@@ -35,59 +38,51 @@ pub fn day_in(numbers: &[u8]) -> Day {
     Day::new(book, caps, numbers::at(numbers, 1) == 1, sheet)
 }
 
-pub fn write(day: Day, out: &mut [u8]) -> bool {
+pub fn write(day: Day, out: &mut [u8]) {
     say_reply(replied(writer::write(out, day)));
-    true
+    say_buffer(out);
 }
 
 // A file is read and, where it is accepted, written again.
-pub fn read(file: &[u8], out: &mut [u8]) -> bool {
+pub fn read(file: &[u8], out: &mut [u8]) {
     let reading = reader::read(file);
     let check = reading.check;
     let r = checked(check);
-    if !r.taken {
-        say_refusal(r.number, r.at);
-        say_text(b"\n");
-        return false;
+    if r.taken {
+        say_text(b"taken, written again ");
+        write(reading.day, out);
+        return;
     }
-    say_text(b"taken, written again ");
-    write(reading.day, out)
+    say_refusal(r.number, r.at);
+    say_text(b"\n");
 }
 
+// A refusal; or a mark, and each number that comes with it: the others are 0.
 fn say_marking(m: Numbers) {
     if m.mark == 0 {
         say_refusal(m.refusal, m.offset);
         return;
     }
-    say_text(b"mark ");
-    say_number(m.mark as usize);
-    if m.mark == 1 {
-        say_text(b", window ");
-        say_number(m.window);
-        say_text(b" seat ");
-        say_number(m.seat);
-    }
-    if m.mark == 2 || m.mark == 3 {
-        say_text(b", moves ");
-        say_number(m.moves);
-    }
+    say_named(b"mark ", m.mark as usize);
+    say_named(b", window ", m.window);
+    say_named(b" seat ", m.seat);
+    say_named(b", moves ", m.moves);
 }
 
-pub fn mark(file: &[u8], out: &mut [u8]) -> bool {
+pub fn mark(file: &[u8], out: &mut [u8]) {
     say_marking(marker::mark(file, out).numbers());
-    true
+    say_buffer(out);
 }
 
-pub fn plan(file: &[u8], out: &mut [u8]) -> bool {
+pub fn plan(file: &[u8], out: &mut [u8]) {
     say_reply(replied(planner::plan(file, out)));
-    true
+    say_buffer(out);
 }
 
 // The listing of a file, whole.
-pub fn list(file: &[u8], out: &mut [u8]) -> bool {
+pub fn list(file: &[u8], out: &mut [u8]) {
     let r = replied(listing::listing(file, out));
     say_reply(r);
     say_text(b"\n");
     say_text(front(out, r.length));
-    false
 }

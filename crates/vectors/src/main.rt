@@ -6,7 +6,6 @@ use libc::STDIN_FILENO;
 ghost use Prim.Native.Nat.{_<_, _≤_};
 ghost use lib.ListN.{length};
 use say::numbers;
-use say::say_hex;
 use say::say_text;
 
 pub mod calls;
@@ -14,23 +13,16 @@ pub mod calls;
 // Room for the numbers of a line, and the longest output buffer: more than the longest file and the longest listing.
 const ROOM: usize = 4096;
 
-// A call's answer, by the word's first letter; whether the buffer is to be shown.
-fn ask(word: u8, numbers: &[u8], out: &mut [u8]) -> bool {
-    match word {
-        b'r' => calls::read(file_in(numbers), out),
-        b'w' => calls::write(day_in(numbers), out),
-        b'm' => calls::mark(file_in(numbers), out),
-        b'p' => calls::plan(file_in(numbers), out),
-        b'l' => calls::list(file_in(numbers), out),
-        _ => false,
-    }
-}
-
-// The answer, and the output buffer afterwards.
+// A call's answer, by the word's first letter.
 fn answer(word: u8, numbers: &[u8], out: &mut [u8]) {
-    if ask(word, numbers, out) {
-        say_text(b", buffer ");
-        say_hex(out);
+    let file = file_in(numbers);
+    match word {
+        b'r' => calls::read(file, out),
+        b'w' => calls::write(day_in(numbers), out),
+        b'm' => calls::mark(file, out),
+        b'p' => calls::plan(file, out),
+        b'l' => calls::list(file, out),
+        _ => {}
     }
 }
 
