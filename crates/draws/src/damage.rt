@@ -2,12 +2,12 @@
 ghost use Prim.Native.Nat.{_≤_, _<_};
 use crate::below;
 use crate::offset;
+use crate::put_small;
 use crate::small::draw_cells;
 use crate::small::draw_small;
 use crate::up_to;
 use dayfile::Book;
 use dayfile::Day;
-use dayfile::Written;
 use oracle::Small;
 use oracle::memory::book_of;
 use oracle::memory::grid_of;
@@ -20,20 +20,14 @@ fn set(file: &mut [u8], at: usize, value: u8) {
     }
 }
 
-// A field whose high byte is 0.
-fn put(file: &mut [u8], at: usize, value: u8)
-    requires { ⌜ at < 1000 ⌝ }
-{
-    set(file, at, value);
-    set(file, at + 1, 0);
+fn lesser(a: u16, b: u16) -> u16 {
+    if a < b { a } else { b }
 }
 
 // Cells that are above their caps brought down to them.
 fn within(mut cells: [u16; 12], caps: [u16; 12]) -> [u16; 12] {
     for k in 0..12usize {
-        if caps[k] < cells[k] {
-            cells[k] = caps[k];
-        }
+        cells[k] = lesser(cells[k], caps[k]);
     }
     cells
 }
@@ -52,14 +46,18 @@ fn draw_sheet(state: &mut u32, s: Small) -> [u16; 12] {
 // The file of a small book, mostly with a sheet.
 fn draw_written(state: &mut u32, file: &mut [u8]) -> usize {
     let s = draw_small(state);
-    let small = s.caps;
-    let caps = grid_of(small);
     let there = below(state, 4) != 0;
-    let sheet = grid_of(draw_sheet(state, s));
-    match writer::write(file, Day::new(book_of(s), caps, there, sheet)) {
-        Written::Whole { length } => length,
-        Written::Refused { number: _, at: _ } => 0,
-    }
+    let cells = draw_sheet(state, s);
+    put_small(file, s, there, cells)
+}
+
+// An entry of the contents: kind, start and length of a body. The high bytes are 0 already.
+fn put_entry(file: &mut [u8], at: usize, kind: u8, start: u8, size: u8)
+    requires { ⌜ at < 100 ⌝ }
+{
+    set(file, at, kind);
+    set(file, at + 2, start);
+    set(file, at + 4, size);
 }
 
 // Contents whose starts are right, with bodies of any length below 6; the offset where the last body ends.
@@ -67,14 +65,11 @@ fn draw_contents(state: &mut u32, file: &mut [u8], entries: u8) -> u8
     requires { ⌜ entries ≤ 4 ⌝ }
     ensures { λ r. ⌜ r ≤ 46 ⌝ }
 {
-    put(file, 0, entries);
+    set(file, 0, entries);
     let mut end = 2 + 6 * entries;
     for e in 0..entries {
-        let at = 2 + 6 * e as usize;
         let size = below(state, 6) as u8;
-        put(file, at, e + 1);
-        put(file, at + 2, end);
-        put(file, at + 4, size);
+        put_entry(file, 2 + 6 * e as usize, e + 1, end, size);
         end += size;
     }
     end
@@ -105,13 +100,17 @@ fn change(state: &mut u32, file: &mut [u8], from: usize, length: usize, n: u32)
     }
 }
 
+fn longer(length: usize) -> usize {
+    if length < 100 { length + 1 } else { length }
+}
+
 // A file that is left as it is, cut, longer by a byte, or has a byte changed: anywhere, in the contents, or in the bodies. Its length.
 fn damage(state: &mut u32, file: &mut [u8], length: usize) -> usize {
     let way = below(state, 6);
     match way {
         0 => length,
         1 => offset(state, length),
-        2 => { if length < 100 { length + 1 } else { length } }
+        2 => longer(length),
         3 => {
             change(state, file, 0, length, 256);
             length
@@ -127,7 +126,7 @@ fn damage(state: &mut u32, file: &mut [u8], length: usize) -> usize {
     }
 }
 
-// A damaged file at the front of a buffer, and its length.
+// A damaged file at the front of a buffer whose bytes are 0, and its length.
 pub fn draw_file(state: &mut u32, file: &mut [u8]) -> usize {
     if below(state, 4) == 0 {
         return draw_made(state, file);
@@ -137,7 +136,7 @@ pub fn draw_file(state: &mut u32, file: &mut [u8]) -> usize {
 }
 
 // A book of a small one's numbers, in which one of them may be out of its range.
-pub fn damage_book(state: &mut u32, s: Small) -> Book {
+fn damage_book(state: &mut u32, s: Small) -> Book {
     let mut book = book_of(s);
     let way = below(state, 5);
     match way {
@@ -161,11 +160,19 @@ pub fn damage_book(state: &mut u32, s: Small) -> Book {
 }
 
 // Caps of which one may be out of its range.
-pub fn damage_caps(state: &mut u32, s: Small) -> Caps {
+fn damage_caps(state: &mut u32, s: Small) -> Caps {
     let mut cells = s.caps;
     if below(state, 4) == 0 {
         let k = below(state, 12) as usize;
         cells[k] = 4094 + up_to(state, 3);
     }
     grid_of(cells)
+}
+
+// A book and a sheet in memory, which a writer may have to refuse.
+pub fn draw_day(state: &mut u32) -> Day {
+    let s = draw_small(state);
+    let book = damage_book(state, s);
+    let caps = damage_caps(state, s);
+    Day::new(book, caps, true, caps)
 }

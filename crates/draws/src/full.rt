@@ -1,47 +1,23 @@
 // Random books of 32 seats and 24 windows.
 use crate::below;
-use crate::up_to;
+use crate::draw_classes;
+use crate::draw_row;
 use dayfile::Book;
+use dayfile::Day;
 use sheet::Caps;
 
-fn draw_classes(state: &mut u32) -> [u16; 32] {
-    let mut classes = [0u16; 32];
-    for i in 0..32usize {
-        classes[i] = 1 + up_to(state, 7);
-    }
-    classes
-}
-
-fn draw_supplies(state: &mut u32, most: u16) -> [u16; 24] {
-    let mut supplies = [0u16; 24];
-    for w in 0..24usize {
-        supplies[w] = up_to(state, most);
-    }
-    supplies
-}
-
-// A seat's caps, 0 in a third of the windows.
-fn draw_row(state: &mut u32, most: u16) -> [u16; 24] {
-    let mut row = [0u16; 24];
-    for w in 0..24usize {
-        if below(state, 3) != 0 {
-            row[w] = up_to(state, most);
-        }
-    }
-    row
-}
-
-pub fn draw_caps(state: &mut u32, most: u16) -> Caps {
+// For each seat its caps, 0 in a third of the windows.
+fn draw_caps(state: &mut u32, most: u16) -> Caps {
     let mut caps = [[0u16; 24]; 32];
     for i in 0..32usize {
-        let row = draw_row(state, most);
+        let row = draw_row(state, 24, most, true);
         caps[i] = row;
     }
     caps
 }
 
 // How large the caps of a book can be.
-pub fn draw_most(state: &mut u32) -> u16 {
+fn draw_most(state: &mut u32) -> u16 {
     let size = below(state, 4);
     match size {
         0 => 1,
@@ -52,13 +28,20 @@ pub fn draw_most(state: &mut u32) -> u16 {
 }
 
 // The book, but for its caps, with supplies that are about what such caps ask for, or less.
-pub fn draw_book(state: &mut u32, most: u16) -> Book {
-    let classes = draw_classes(state);
-    let supplies = draw_supplies(state, if most < 256 { 16 * most } else { 4095 });
+fn draw_book(state: &mut u32, most: u16) -> Book {
+    let classes = draw_classes(state, 32, 7);
+    let supplies = draw_row(state, 24, if most < 256 { 16 * most } else { 4095 }, false);
     Book {
         seats: 32,
         windows: 24,
         classes,
         supplies,
     }
+}
+
+// A book with no sheet.
+pub fn draw_full(state: &mut u32) -> Day {
+    let most = draw_most(state);
+    let caps = draw_caps(state, most);
+    Day::new(draw_book(state, most), caps, false, caps)
 }

@@ -1,5 +1,10 @@
 // Random numbers, the same in every run: the next is 1,664,525 times the one before plus 1,013,904,223, remainder on 2^32.
 ghost use Prim.Native.Nat.{_≤_, _<_};
+use dayfile::Day;
+use dayfile::Written;
+use oracle::Small;
+use oracle::memory::book_of;
+use oracle::memory::grid_of;
 use oracle::numbers::times;
 
 pub mod damage;
@@ -36,4 +41,57 @@ pub fn offset(state: &mut u32, n: usize) -> usize
         return 0;
     }
     below(state, n as u32) as usize
+}
+
+// The classes of n seats, 1 to `most` and one more.
+fn draw_classes(state: &mut u32, n: usize, most: u16) -> [u16; 32]
+    requires { ⌜ (n ≤ 32) × (most ≤ 7) ⌝ }
+{
+    let mut classes = [0u16; 32];
+    for i in 0..n {
+        classes[i] = 1 + up_to(state, most);
+    }
+    classes
+}
+
+// A number that is at most `most`, or 0 with no draw.
+pub fn draw_if(state: &mut u32, there: bool, most: u16) -> u16 {
+    if there { up_to(state, most) } else { 0 }
+}
+
+// A number that is at most `most`; with gaps 0 in a third of the cases.
+fn draw_cap(state: &mut u32, most: u16, gaps: bool) -> u16 {
+    if !gaps {
+        return up_to(state, most);
+    }
+    let there = below(state, 3) != 0;
+    draw_if(state, there, most)
+}
+
+// The numbers of n windows.
+fn draw_row(state: &mut u32, n: usize, most: u16, gaps: bool) -> [u16; 24]
+    requires { ⌜ n ≤ 24 ⌝ }
+{
+    let mut row = [0u16; 24];
+    for w in 0..n {
+        row[w] = draw_cap(state, most, gaps);
+    }
+    row
+}
+
+// The length of a day's file, at the front of a buffer; 0 where the writer refuses.
+pub fn put_day(file: &mut [u8], day: Day) -> usize {
+    match writer::write(file, day) {
+        Written::Whole { length } => length,
+        Written::Refused { number: _, at: _ } => 0,
+    }
+}
+
+// The same of a small book, with a sheet or without.
+pub fn put_small(file: &mut [u8], s: Small, there: bool, cells: [u16; 12]) -> usize {
+    let caps = s.caps;
+    put_day(
+        file,
+        Day::new(book_of(s), grid_of(caps), there, grid_of(cells)),
+    )
 }

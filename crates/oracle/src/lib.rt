@@ -1,6 +1,7 @@
 // A test oracle: paper 01's rules for small books, anew and in the plainest way. It shares no code with what it is held against.
 //
 // A book has up to 4 seats and 3 windows, a sheet 12 cells, 3 for each seat. Outside the book cells, caps and supplies are 0.
+pub mod marks;
 pub mod memory;
 pub mod numbers;
 pub mod paths;
@@ -9,19 +10,24 @@ pub mod rules;
 pub struct Small {
     pub seats: usize,
     pub windows: usize,
-    pub classes: [u16; 4],
-    pub supplies: [u16; 3],
+    pub classes: [u16; 32],
+    pub supplies: [u16; 24],
     pub caps: [u16; 12],
+}
+
+// One more, or 0 again above the cap.
+fn next_cell(x: u16, cap: u16) -> u16 {
+    if x < cap { x + 1 } else { 0 }
 }
 
 // The next sheet within the caps, as a number is counted up: false after the last one, and the cells are 0 again.
 pub fn next_sheet(cells: &mut [u16; 12], caps: &[u16; 12]) -> bool {
     for k in 0..12usize {
-        if cells[k] < caps[k] {
-            cells[k] = std::num::wrapping_add_u16(cells[k], 1);
+        let x = next_cell(cells[k], caps[k]);
+        cells[k] = x;
+        if x != 0 {
             return true;
         }
-        cells[k] = 0;
     }
     false
 }

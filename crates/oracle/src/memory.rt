@@ -5,16 +5,8 @@ use sheet::Caps;
 
 // The book in memory, but for its caps.
 pub fn book_of(s: Small) -> Book {
-    let small = s.classes;
-    let mut classes = [0u16; 32];
-    for i in 0..4usize {
-        classes[i] = small[i];
-    }
-    let few = s.supplies;
-    let mut supplies = [0u16; 24];
-    supplies[0] = few[0];
-    supplies[1] = few[1];
-    supplies[2] = few[2];
+    let classes = s.classes;
+    let supplies = s.supplies;
     Book {
         seats: s.seats,
         windows: s.windows,

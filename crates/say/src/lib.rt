@@ -1,5 +1,8 @@
-// What the test programs share: text on the standard output, and a look at the bytes of a buffer.
+// What the test programs are made of: numbers in a text, text on the standard output, answers in numbers, a look at the bytes of a buffer.
+use dayfile::Check;
 use dayfile::Written;
+
+pub mod numbers;
 
 pub fn say_text(text: &[u8]) {
     io::write_all(1, text);
@@ -23,6 +26,19 @@ pub fn say_hex(bytes: &[u8]) {
     say_text(b"\n");
 }
 
+pub fn say_buffer(out: &[u8]) {
+    say_text(b", buffer ");
+    say_hex(out);
+}
+
+// A number with its name; nothing where it is 0.
+pub fn say_named(name: &[u8], n: usize) {
+    if n != 0 {
+        say_text(name);
+        say_number(n);
+    }
+}
+
 pub fn say_refusal(number: u8, at: usize) {
     say_text(b"refused ");
     say_number(number as usize);
@@ -30,15 +46,52 @@ pub fn say_refusal(number: u8, at: usize) {
     say_number(at);
 }
 
-pub fn say_written(w: Written) {
+// An answer in numbers: a refusal's number and offset, or the length of what was written. What an answer does not use is 0.
+pub struct Reply {
+    pub taken: bool,
+    pub number: u8,
+    pub at: usize,
+    pub length: usize,
+}
+
+pub fn refusal(number: u8, at: usize) -> Reply {
+    Reply {
+        taken: false,
+        number,
+        at,
+        length: 0,
+    }
+}
+
+pub fn taken(length: usize) -> Reply {
+    Reply {
+        taken: true,
+        number: 0,
+        at: 0,
+        length,
+    }
+}
+
+pub fn checked(c: Check) -> Reply {
+    match c {
+        Check::Refused { number, at } => refusal(number, at),
+        Check::Sound => taken(0),
+    }
+}
+
+pub fn replied(w: Written) -> Reply {
     match w {
-        Written::Refused { number, at } => {
-            say_refusal(number, at);
-        }
-        Written::Whole { length } => {
-            say_text(b"length ");
-            say_number(length);
-        }
+        Written::Refused { number, at } => refusal(number, at),
+        Written::Whole { length } => taken(length),
+    }
+}
+
+pub fn say_reply(r: Reply) {
+    if r.taken {
+        say_text(b"length ");
+        say_number(r.length);
+    } else {
+        say_refusal(r.number, r.at);
     }
 }
 
@@ -60,4 +113,29 @@ pub fn all_from(bytes: &[u8], at: usize, value: u8) -> bool {
         i += 1;
     }
     true
+}
+
+fn say_count(n: u32) {
+    say_number(n as usize);
+}
+
+// A byte of a report: one from 128 on stands for the count at that place.
+fn say_part(c: u8, counts: &[u32; 52]) {
+    let place = c as usize;
+    if place < 128 {
+        say_text(&[c]);
+        return;
+    }
+    if place < 180 {
+        say_count(counts[place - 128]);
+    }
+}
+
+// A text with counts in it.
+pub fn say_report(text: &[u8], counts: &[u32; 52]) {
+    let mut i = 0;
+    while i < text.len() {
+        say_part(text[i], counts);
+        i += 1;
+    }
 }

@@ -1,144 +1,123 @@
-// Damaged files and books through all calls: their refusals agree, and none changes a byte.
-use answers::Marking;
-use dayfile::Book;
-use dayfile::Check;
+// The library's calls, and what they leave in a buffer whose bytes are all 255 before the call.
+ghost use Prim.Native.Nat.{_≤_};
+use answers::Numbers;
 use dayfile::Day;
-use dayfile::Written;
-use lawful::MOVES_ROOM;
+use dayfile::LONGEST_FILE;
+use draws::put_day;
 use listing::LISTING_MAX;
+use say::Reply;
 use say::all_from;
+use say::checked;
 use say::front;
-use sheet::Caps;
+use say::refusal;
+use say::replied;
+use say::taken;
 
-// What a call made of its input: a refusal's number, 0 where there was none, and whether that was right.
+// More bytes than any file and any listing has.
+pub const ROOM: usize = LISTING_MAX + 7;
+
+pub enum Call {
+    Mark,
+    Plan,
+    List,
+    Write,
+}
+
+// What a call answered, and what stands in the buffer after it: whether the bytes behind what it wrote are still 255, the first byte, and
+// whether what it wrote is the file it was given, is one that the reader takes, and is one with mark 4.
 pub struct Seen {
-    pub number: u8,
-    pub right: bool,
+    pub reply: Reply,
+    pub kept: bool,
+    pub letter: u8,
+    pub same: bool,
+    pub sound: bool,
+    pub settled: bool,
 }
 
-fn sound(first: Check) -> bool {
-    match first {
-        Check::Refused { number: _, at: _ } => false,
-        Check::Sound => true,
+pub fn read_check(file: &[u8]) -> Reply {
+    checked(sound::check(file))
+}
+
+pub fn mark(file: &[u8], moves: &mut [u8]) -> Numbers {
+    marker::mark(file, moves).numbers()
+}
+
+// A mark's answer, with the length of its moves. No path has more than 31.
+fn marked(m: Numbers) -> Reply {
+    if m.mark == 0 {
+        return refusal(m.refusal, m.offset);
+    }
+    if m.moves < 32 {
+        return taken(3 * m.moves);
+    }
+    taken(ROOM + 1)
+}
+
+fn settled(file: &[u8]) -> bool {
+    let mut moves = [255u8; 93];
+    mark(file, &mut moves).mark == 4
+}
+
+fn first(out: &[u8]) -> u8 {
+    if 0 < out.len() { out[0] } else { 0 }
+}
+
+// A call on a file; the writer's on a day.
+fn ask(call: Call, file: &[u8], day: Day, out: &mut [u8]) -> Reply {
+    match call {
+        Call::Mark => marked(mark(file, out)),
+        Call::Plan => replied(planner::plan(file, out)),
+        Call::List => replied(listing::listing(file, out)),
+        Call::Write => replied(writer::write(out, day)),
     }
 }
 
-// Whether a refusal is the reader's; where the reader takes the file, a later line's.
-fn agrees(first: Check, number: u8, at: usize) -> bool {
-    match first {
-        Check::Refused {
-            number: line,
-            at: place,
-        } => number == line && at == place,
-        Check::Sound => 12 < number,
-    }
-}
-
-// Whether the bytes after a path of so many moves are still 255.
-pub fn kept(moves: &[u8], count: usize) -> bool {
-    count < 32 && all_from(moves, 3 * count, 255)
-}
-
-// A file that was marked, with so many moves.
-fn marked(first: Check, moves: &[u8], count: usize) -> Seen {
+fn look(reply: Reply, file: &[u8], out: &[u8]) -> Seen {
+    let written = front(out, reply.length);
+    let sound = read_check(written);
     Seen {
-        number: 0,
-        right: sound(first) && kept(moves, count),
+        reply,
+        kept: (reply.length <= out.len()) & all_from(out, reply.length, 255),
+        letter: first(out),
+        same: check::same(written, file),
+        sound: sound.taken,
+        settled: settled(written),
     }
 }
 
-// The marker's answer, where `first` is the reader's and all bytes of the buffer are 255.
-pub fn see_mark(file: &[u8], first: Check, moves: &mut [u8]) -> Seen {
-    let m = marker::mark(file, moves);
-    match m {
-        Marking::Refused { number, at } => Seen {
-            number,
-            right: agrees(first, number, at) && kept(moves, 0),
-        },
-        Marking::Wasteful { window: _, seat: _ } => marked(first, moves, 0),
-        Marking::Improvable { moves: count } => marked(first, moves, count),
-        Marking::Tied { moves: count } => marked(first, moves, count),
-        Marking::Settled => marked(first, moves, 0),
-    }
+fn lesser(a: usize, b: usize) -> usize
+    ensures { λ r. ⌜ r ≤ b ⌝ }
+{
+    if a < b { a } else { b }
 }
 
-// Whether a file gets mark 4.
-pub fn settled(file: &[u8]) -> bool {
-    let mut moves = [255u8; MOVES_ROOM];
-    match marker::mark(file, &mut moves) {
-        Marking::Refused { number: _, at: _ } => false,
-        Marking::Wasteful { window: _, seat: _ } => false,
-        Marking::Improvable { moves: _ } => false,
-        Marking::Tied { moves: _ } => false,
-        Marking::Settled => true,
-    }
+// A call with the front of a buffer. The bytes behind it must stay too.
+fn see_in(call: Call, file: &[u8], day: Day, out: &mut [u8], room: usize) -> Seen {
+    let n = lesser(room, out.len());
+    let reply = ask(call, file, day, &mut out[..n]);
+    look(reply, file, out)
 }
 
-// The planner's answer. What it writes gets mark 4.
-pub fn see_plan(file: &[u8], first: Check, out: &mut [u8]) -> Seen {
-    match planner::plan(file, out) {
-        Written::Refused { number, at } => Seen {
-            number,
-            right: agrees(first, number, at) && all_from(out, 0, 255),
-        },
-        Written::Whole { length } => Seen {
-            number: 0,
-            right: sound(first) && all_from(out, length, 255) && settled(front(out, length)),
-        },
-    }
+// A call with a buffer of so many bytes.
+pub fn see(call: Call, file: &[u8], day: Day, room: usize) -> Seen {
+    let mut out = [255u8; ROOM];
+    see_in(call, file, day, &mut out, room)
 }
 
-fn begins(text: &[u8], letter: u8) -> bool {
-    0 < text.len() && text[0] == letter
+// A call on a file. What was read of it is what the writer is given.
+pub fn see_file(call: Call, file: &[u8], room: usize) -> Seen {
+    let reading = reader::read(file);
+    see(call, file, reading.day, room)
 }
 
-// More bytes than any listing has, and a byte less than the listing asks for.
-const LISTING_ROOM: usize = LISTING_MAX + 7;
-
-const LISTING_SHORT: usize = LISTING_MAX - 1;
-
-// Whether the listing begins as it must, with `refused` or `seats`.
-pub fn lists(file: &[u8], refused: bool) -> bool {
-    let mut out = [255u8; LISTING_ROOM];
-    let Written::Whole { length } = listing::listing(file, &mut out) else {
-        return false;
-    };
-    let letter = if refused { b'r' } else { b's' };
-    begins(&out, letter) && all_from(&out, length, 255)
-}
-
-// Whether the listing refuses a buffer that is a byte short.
-pub fn lists_short(file: &[u8]) -> bool {
-    let mut out = [255u8; LISTING_SHORT];
-    let Written::Refused { number, at } = listing::listing(file, &mut out) else {
-        return false;
-    };
-    number == 16 && at == LISTING_MAX && all_from(&out, 0, 255)
-}
-
-// Whether what was read of a file is written as the same bytes; true where nothing can be read.
-pub fn written_again(file: &[u8], first: Check) -> bool {
-    if !sound(first) {
-        return true;
-    }
-    let read = reader::read(file);
-    let mut out = [255u8; 128];
-    let Written::Whole { length } = writer::write(&mut out, read.day) else {
-        return false;
-    };
-    check::same(front(&out, length), file) && all_from(&out, length, 255)
-}
-
-// The writer's answer. What it writes, the reader takes.
-pub fn see_write(book: Book, caps: Caps, out: &mut [u8]) -> Seen {
-    match writer::write(out, Day::new(book, caps, true, caps)) {
-        Written::Refused { number, at: _ } => Seen {
-            number,
-            right: all_from(out, 0, 255),
-        },
-        Written::Whole { length } => Seen {
-            number: 0,
-            right: sound(sound::check(front(out, length))) && all_from(out, length, 255),
-        },
+// The length of a day's planned file, at the front of a buffer whose bytes are all 255; 0 where it is refused or a byte behind it changed.
+pub fn plan_day(day: Day, out: &mut [u8]) -> usize {
+    let mut file = [0u8; LONGEST_FILE];
+    let length = put_day(&mut file, day);
+    let r = replied(planner::plan(front(&file, length), out));
+    if all_from(out, r.length, 255) {
+        r.length
+    } else {
+        0
     }
 }

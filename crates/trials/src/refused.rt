@@ -1,160 +1,97 @@
-// How often each call gave each refusal.
+// Damaged files and books through all calls: their refusals agree, and none changes a byte.
+ghost use Prim.Native.Nat.{_<_};
+use crate::calls::Call;
 use crate::calls::Seen;
-use crate::calls::lists;
-use crate::calls::lists_short;
-use crate::calls::see_mark;
-use crate::calls::see_plan;
-use crate::calls::see_write;
-use crate::calls::written_again;
-use crate::tally::more;
-use crate::tally::more_if;
-use crate::tally::say_count;
-use dayfile::Book;
-use dayfile::Check;
+use crate::calls::read_check;
+use crate::calls::see;
+use crate::calls::see_file;
+use crate::tally::Tally;
+use crate::tally::count;
+use dayfile::Day;
 use dayfile::LONGEST_FILE;
 use draws::below;
-use draws::damage::damage_book;
-use draws::damage::damage_caps;
+use draws::damage::draw_day;
 use draws::damage::draw_file;
-use draws::small::draw_small;
 use lawful::MOVES_ROOM;
+use listing::LISTING_MAX;
+use say::Reply;
 use say::front;
-use say::say_number;
-use say::say_text;
-use sheet::Caps;
 
-// Counts by the number of the refusal, at 0 those that were taken.
-pub struct Refusals {
-    pub marker: [u32; 17],
-    pub planner: [u32; 17],
-    pub writer: [u32; 17],
-    pub wrong: u32,
+// Whether an answer is the reader's; where the reader takes the file, that or a later line's.
+fn agrees(first: Reply, r: Reply) -> bool {
+    if first.taken {
+        return r.taken | (12 < r.number);
+    }
+    !r.taken & (r.number == first.number) & (r.at == first.at)
 }
 
-// One more at a number.
-fn counted(mut counts: [u32; 17], number: u8) -> [u32; 17] {
-    let k = number as usize;
-    if k < 17 {
-        counts[k] = more(counts[k]);
-    }
-    counts
+fn pick(first: bool, a: usize, b: usize) -> usize {
+    if first { a } else { b }
 }
 
-impl Refusals {
-    pub fn new() -> Refusals {
-        Refusals {
-            marker: [0u32; 17],
-            planner: [0u32; 17],
-            writer: [0u32; 17],
-            wrong: 0,
-        }
-    }
-
-    fn judged(mut self, right: bool) -> Refusals {
-        self.wrong = more_if(self.wrong, !right);
-        self
-    }
-
-    fn marked(mut self, seen: Seen) -> Refusals {
-        let before = self.marker;
-        let after = counted(before, seen.number);
-        self.marker = after;
-        self.judged(seen.right)
-    }
-
-    fn planned(mut self, seen: Seen) -> Refusals {
-        let before = self.planner;
-        let after = counted(before, seen.number);
-        self.planner = after;
-        self.judged(seen.right)
-    }
-
-    fn written(mut self, seen: Seen) -> Refusals {
-        let before = self.writer;
-        let after = counted(before, seen.number);
-        self.writer = after;
-        self.judged(seen.right)
-    }
-
-    // A row for each number, a column for each call.
-    pub fn say(self) {
-        say_text(b"damaged files and books, by line: marker, planner, writer\n");
-        let marker = self.marker;
-        let planner = self.planner;
-        let writer = self.writer;
-        for k in 0..17usize {
-            say_row(k, marker[k], planner[k], writer[k]);
-        }
-        say_count(b"  wrong: ", self.wrong);
-    }
+// The answer of the marker or the planner. What the planner writes gets mark 4.
+fn judge_call(tally: Tally, column: usize, seen: Seen, first: Reply, writes: bool) -> Tally
+    requires { ⌜ column < 3 ⌝ }
+{
+    let r = seen.reply;
+    let done = !writes | !r.taken | seen.settled;
+    count(
+        tally,
+        column,
+        r.number as usize,
+        agrees(first, r) & seen.kept & done,
+    )
 }
 
-fn say_row(number: usize, a: u32, b: u32, c: u32) {
-    if number == 0 {
-        say_text(b"  taken");
-    } else {
-        say_text(b"  line ");
-        say_number(number);
-    }
-    say_text(b": ");
-    say_number(a as usize);
-    say_text(b", ");
-    say_number(b as usize);
-    say_text(b", ");
-    say_number(c as usize);
-    say_text(b"\n");
+// Whether an answer is this refusal, or none where its number is 0.
+fn gives(seen: Seen, number: u8, at: usize) -> bool {
+    let r = seen.reply;
+    seen.kept & (r.taken == (number == 0)) & (r.number == number) & (r.at == at)
 }
 
-// A byte less than the marker asks for.
-const MOVES_SHORT: usize = MOVES_ROOM - 1;
-
-// The marker's answer with a buffer that is a byte short, or long enough.
-fn mark_with(file: &[u8], first: Check, short: bool) -> Seen {
-    if short {
-        let mut few = [255u8; MOVES_SHORT];
-        return see_mark(file, first, &mut few);
-    }
-    let mut moves = [255u8; MOVES_ROOM];
-    see_mark(file, first, &mut moves)
+// Whether the listing begins as it must, with `refused` or `seats`, and refuses a buffer that is a byte short.
+fn lists(file: &[u8]) -> bool {
+    let m = see_file(Call::Mark, file, MOVES_ROOM);
+    let l = see_file(Call::List, file, LISTING_MAX + 7);
+    let short = see_file(Call::List, file, LISTING_MAX - 1);
+    let refused = m.reply;
+    let letter = if refused.taken { b's' } else { b'r' };
+    gives(l, 0, 0) & (l.letter == letter) & gives(short, 16, LISTING_MAX)
 }
 
-// The planner's answer with a buffer of 60 or 128 bytes.
-fn plan_with(file: &[u8], first: Check, short: bool) -> Seen {
-    if short {
-        let mut few = [255u8; 60];
-        return see_plan(file, first, &mut few);
-    }
-    let mut out = [255u8; 128];
-    see_plan(file, first, &mut out)
-}
-
-// The writer's answer with a buffer of 60 bytes, or one for any file.
-fn write_with(book: Book, caps: Caps, short: bool) -> Seen {
-    if short {
-        let mut few = [255u8; 60];
-        return see_write(book, caps, &mut few);
-    }
-    let mut out = [255u8; LONGEST_FILE];
-    see_write(book, caps, &mut out)
+// Whether what was read of a file is written as the same bytes.
+fn written_again(file: &[u8]) -> bool {
+    let w = see_file(Call::Write, file, 128);
+    gives(w, 0, 0) & w.same
 }
 
 // A damaged file through marker, planner, listing, and reader and writer. Now and then a buffer is too short.
-fn judge_file(refusals: Refusals, file: &[u8], short: bool) -> Refusals {
-    let first = sound::check(file);
-    let seen = refusals.marked(mark_with(file, first, short));
-    let seen = seen.planned(plan_with(file, first, short));
-    let refused = mark_with(file, first, false).number != 0;
-    seen.judged(lists(file, refused) && lists_short(file) && written_again(file, first))
+fn judge_file(tally: Tally, file: &[u8], short: bool) -> Tally {
+    let first = read_check(file);
+    let m = see_file(Call::Mark, file, pick(short, MOVES_ROOM - 1, MOVES_ROOM));
+    let p = see_file(Call::Plan, file, pick(short, 60, 128));
+    let seen = judge_call(tally, 0, m, first, false);
+    let seen = judge_call(seen, 1, p, first, true);
+    count(
+        seen,
+        0,
+        17,
+        lists(file) & (!first.taken | written_again(file)),
+    )
+}
+
+// The writer's answer, with a buffer of 60 bytes or one for any file. What it writes, the reader takes.
+fn judge_day(tally: Tally, day: Day, short: bool) -> Tally {
+    let w = see(Call::Write, b"", day, pick(short, 60, LONGEST_FILE));
+    let r = w.reply;
+    count(tally, 2, r.number as usize, w.kept & (w.sound | !r.taken))
 }
 
 // A damaged file, and a damaged book.
-pub fn judge(state: &mut u32, refusals: Refusals) -> Refusals {
+pub fn judge(state: &mut u32, tally: Tally) -> Tally {
     let short = below(state, 8) == 0;
     let mut file = [0u8; 128];
     let length = draw_file(state, &mut file);
-    let seen = judge_file(refusals, front(&file, length), short);
-    let s = draw_small(state);
-    let book = damage_book(state, s);
-    let caps = damage_caps(state, s);
-    seen.written(write_with(book, caps, short))
+    let seen = judge_file(tally, front(&file, length), short);
+    judge_day(seen, draw_day(state), short)
 }

@@ -1,43 +1,36 @@
 // Every sheet of a small book, marked, and what the marker says held against the rules; and the same of the planned sheet.
-use crate::calls::kept;
+use crate::calls::mark;
+use crate::calls::plan_day;
 use crate::tally::Tally;
-use answers::Marking;
-use dayfile::Book;
+use crate::tally::count;
 use dayfile::Day;
-use dayfile::Written;
+use draws::put_small;
+use draws::small::draw_small;
 use lawful::MOVES_ROOM;
 use oracle::Small;
+use oracle::marks::Told;
+use oracle::marks::better;
+use oracle::marks::rightly_marked;
 use oracle::memory::book_of;
 use oracle::memory::cells_of;
 use oracle::memory::grid_of;
 use oracle::next_sheet;
-use oracle::paths::play;
-use oracle::rules::Best;
-use oracle::rules::better;
-use oracle::rules::favours;
 use oracle::rules::feasible;
-use oracle::rules::higher;
-use oracle::rules::profile_of;
-use oracle::rules::totals;
-use oracle::rules::wasted;
+use oracle::rules::rank_of;
 use say::all_from;
 use say::front;
-use sheet::Caps;
 
 // No small book has more: 12 cells, and no cap above 3.
 const SHEETS: u32 = 16777216;
 
-// The best of all sheets. The sheet of zeros is the first.
-fn best_of(s: Small) -> Best {
+// The best rank of all sheets. The sheet of zeros is the first.
+fn best_of(s: Small) -> [u64; 8] {
     let caps = s.caps;
     let mut cells = [0u16; 12];
-    let zeros = profile_of(s, cells);
-    let mut best = Best {
-        profile: zeros,
-        totals: [0u32; 4],
-    };
+    let mut best = rank_of(s, &cells);
     for _ in 0..SHEETS {
-        best = better(best, s, cells);
+        let next = better(best, s, &cells);
+        best = next;
         if !next_sheet(&mut cells, &caps) {
             return best;
         }
@@ -45,134 +38,82 @@ fn best_of(s: Small) -> Best {
     best
 }
 
-// Whether a sheet is feasible and its profile is the highest.
-fn is_best(s: Small, best: Best, cells: [u16; 12]) -> bool {
-    let top = best.profile;
-    feasible(s, cells) && !higher(top, profile_of(s, cells))
+// A mark, its number of moves, and whether it is right.
+struct Verdict {
+    mark: u8,
+    moves: usize,
+    right: bool,
 }
 
-// Mark 1.
-fn rightly_wasteful(s: Small, best: Best, cells: [u16; 12], window: usize, seat: usize) -> bool {
-    let place = wasted(s, cells);
-    !is_best(s, best, cells) && 0 < window && window == place.window && seat == place.seat
+// Whether the bytes after a path of so many moves are still 255.
+fn kept(moves: &[u8], count: usize) -> bool {
+    count < 32 && all_from(moves, 3 * count, 255)
 }
 
-// Mark 2: the profile is not the highest, and that of the sheet after the moves is higher.
-fn rightly_improvable(s: Small, best: Best, cells: [u16; 12], moves: &[u8], count: usize) -> bool {
-    if wasted(s, cells).window != 0 || is_best(s, best, cells) {
-        return false;
-    }
-    let caps = s.caps;
-    let played = play(cells, caps, moves, count);
-    let after = played.cells;
-    played.right && feasible(s, after) && higher(profile_of(s, after), profile_of(s, cells))
-}
-
-// Mark 3: the profile is the highest, as is that of the sheet after the moves, which give a lower seat more.
-fn rightly_tied(s: Small, best: Best, cells: [u16; 12], moves: &[u8], count: usize) -> bool {
-    if !is_best(s, best, cells) || wasted(s, cells).window != 0 {
-        return false;
-    }
-    let caps = s.caps;
-    let played = play(cells, caps, moves, count);
-    let after = played.cells;
-    played.right && is_best(s, best, after) && favours(totals(after), totals(cells))
-}
-
-// Mark 4: the profile is the highest, and the totals are the settled ones.
-fn rightly_settled(s: Small, best: Best, cells: [u16; 12]) -> bool {
-    let most = best.totals;
-    let all = totals(cells);
-    is_best(s, best, cells) && !favours(all, most) && !favours(most, all)
-}
-
-// Whether what the marker says of a feasible sheet is right.
-fn rightly_marked(s: Small, best: Best, cells: [u16; 12], m: Marking, moves: &[u8]) -> bool {
-    match m {
-        Marking::Refused { number: _, at: _ } => false,
-        Marking::Wasteful { window, seat } => {
-            rightly_wasteful(s, best, cells, window, seat) && kept(moves, 0)
-        }
-        Marking::Improvable { moves: count } => {
-            rightly_improvable(s, best, cells, moves, count) && kept(moves, count)
-        }
-        Marking::Tied { moves: count } => {
-            rightly_tied(s, best, cells, moves, count) && kept(moves, count)
-        }
-        Marking::Settled => rightly_settled(s, best, cells) && kept(moves, 0),
-    }
-}
-
-// The mark of a sheet of a book in memory. What the writer refused counts as refusal 0.
-fn mark_cells(book: Book, caps: Caps, cells: [u16; 12], moves: &mut [u8]) -> Marking {
-    let mut file = [0u8; 96];
-    match writer::write(&mut file, Day::new(book, caps, true, grid_of(cells))) {
-        Written::Whole { length } => marker::mark(front(&file, length), moves),
-        Written::Refused { number: _, at } => Marking::Refused { number: 0, at },
+// What the marker says of a file with these cells.
+fn judge_mark(s: Small, best: [u64; 8], cells: [u16; 12], file: &[u8]) -> Verdict {
+    let mut moves = [255u8; MOVES_ROOM];
+    let m = mark(file, &mut moves);
+    let told = Told {
+        mark: m.mark,
+        window: m.window,
+        seat: m.seat,
+        moves: m.moves,
+    };
+    Verdict {
+        mark: m.mark,
+        moves: m.moves,
+        right: rightly_marked(s, best, cells, told, &moves) & kept(&moves, m.moves),
     }
 }
 
 // A feasible sheet.
-fn judge_sheet(
-    tally: Tally,
-    s: Small,
-    best: Best,
-    book: Book,
-    caps: Caps,
-    cells: [u16; 12],
-) -> Tally {
-    let mut moves = [255u8; MOVES_ROOM];
-    let m = mark_cells(book, caps, cells, &mut moves);
-    let right = rightly_marked(s, best, cells, m, &moves);
-    tally.marked(m, right)
+fn judge_sheet(tally: Tally, s: Small, best: [u64; 8], cells: [u16; 12]) -> Tally {
+    let mut file = [0u8; 96];
+    let length = put_small(&mut file, s, true, cells);
+    let v = judge_mark(s, best, cells, front(&file, length));
+    count(count(tally, 0, v.mark as usize, v.right), 1, v.moves, true)
 }
 
 // Every feasible sheet.
-fn judge_sheets(tally: Tally, s: Small, best: Best) -> Tally {
-    let book = book_of(s);
-    let small = s.caps;
-    let caps = grid_of(small);
+fn judge_sheets(tally: Tally, s: Small, best: [u64; 8]) -> Tally {
+    let caps = s.caps;
     let mut seen = tally;
     let mut cells = [0u16; 12];
     for _ in 0..SHEETS {
-        if feasible(s, cells) {
-            seen = judge_sheet(seen, s, best, book, caps, cells);
+        if feasible(s, &cells) {
+            let next = judge_sheet(seen, s, best, cells);
+            seen = next;
         }
-        if !next_sheet(&mut cells, &small) {
+        if !next_sheet(&mut cells, &caps) {
             return seen;
         }
     }
     seen
 }
 
-// Whether the sheet of a planned file is the best one and gets mark 4.
-fn rightly_planned(s: Small, best: Best, file: &[u8]) -> bool {
+// The cells of a file's sheet.
+fn cells_in(file: &[u8]) -> [u16; 12] {
     let read = reader::read(file);
     let day = read.day;
-    let cells = cells_of(day.sheet.to_grid());
-    let mut moves = [255u8; MOVES_ROOM];
-    let m = marker::mark(file, &mut moves);
-    rightly_settled(s, best, cells) && rightly_marked(s, best, cells, m, &moves)
+    cells_of(day.sheet.to_grid())
 }
 
-// Whether the planner does right by a book.
-fn judge_plan(s: Small, best: Best) -> bool {
+// Whether the planned sheet is the best one and gets mark 4.
+fn judge_plan(s: Small, best: [u64; 8]) -> bool {
     let small = s.caps;
     let caps = grid_of(small);
-    let mut file = [0u8; 96];
-    let day = Day::new(book_of(s), caps, false, caps);
-    let Written::Whole { length } = writer::write(&mut file, day) else {
-        return false;
-    };
     let mut out = [255u8; 96];
-    let Written::Whole { length: end } = planner::plan(front(&file, length), &mut out) else {
-        return false;
-    };
-    rightly_planned(s, best, front(&out, end)) && all_from(&out, end, 255)
+    let end = plan_day(Day::new(book_of(s), caps, false, caps), &mut out);
+    let file = front(&out, end);
+    let v = judge_mark(s, best, cells_in(file), file);
+    (v.mark == 4) & v.right
 }
 
-pub fn judge(tally: Tally, s: Small) -> Tally {
+// A random small book, planned, and each of its feasible sheets marked.
+pub fn judge(state: &mut u32, tally: Tally) -> Tally {
+    let s = draw_small(state);
     let best = best_of(s);
-    let seen = tally.planned(judge_plan(s, best));
+    let seen = count(tally, 2, 0, judge_plan(s, best));
     judge_sheets(seen, s, best)
 }

@@ -4,10 +4,10 @@ use Rattle.oracle.proofs.paths.play.Statement.{statement}
 use Rattle.oracle.proofs.paths.play.Tie as tie
 
 abbrev Inv-loop : tie.InvT-loop
-Inv-loop sheet caps moves count p₀ k₀ p k = k ≤ count
+Inv-loop caps moves count sheet p₀ k₀ p k = k ≤ count
 
 abbrev μ-loop : tie.MeasureT-loop
-μ-loop sheet caps moves count p₀ k₀ p k = count - k
+μ-loop caps moves count sheet p₀ k₀ p k = count - k
 
 pub play-spec : {M : Type 1} → statement M
 play-spec =
@@ -18,12 +18,13 @@ play-spec =
     (λ c. search needs)
     (λ c. search needs)
     (λ c. search needs)
+    (λ c κs. search needs)
     (λ c. search needs)
     (λ c. search needs)
+    (λ c κs. search needs)
     (λ c. search needs)
     (λ c. search needs)
-    (λ c. search needs)
-    (λ c. search needs)
+    (λ c κs. search needs)
     (λ c κs. search needs)
     (λ c. search needs)
     (λ c. search needs)

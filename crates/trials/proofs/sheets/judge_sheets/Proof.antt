@@ -4,10 +4,10 @@ use Rattle.trials.proofs.sheets.judge_sheets.Statement.{statement}
 use Rattle.trials.proofs.sheets.judge_sheets.Tie as tie
 
 abbrev Inv-loop : tie.InvT-loop
-Inv-loop s best book small caps seen₀ cells₀ counter₀ seen cells counter = counter ≤ 16777216
+Inv-loop s best caps seen₀ cells₀ counter₀ seen cells counter = counter ≤ 16777216
 
 abbrev μ-loop : tie.MeasureT-loop
-μ-loop s best book small caps seen₀ cells₀ counter₀ seen cells counter = 16777216 - counter
+μ-loop s best caps seen₀ cells₀ counter₀ seen cells counter = 16777216 - counter
 
 pub judge-sheets-spec : {M : Type 1} → statement M
 judge-sheets-spec =
@@ -15,8 +15,6 @@ judge-sheets-spec =
     (tie.spec
     Inv-loop
     μ-loop
-    (λ c κs. search needs)
-    (λ c κs. search needs)
     (λ c. search needs)
     (λ c κs. search needs)
     (λ c κs. search needs)
