@@ -27,7 +27,7 @@ use Rattle.answers.specs.declared.Marking.{Marking}
 use Rattle.answers.specs.declared.Marking.the-variants.{Refused}
 use Rattle.marker.specs.Marking as marking
 use Rattle.marker.specs.Marking.{Marks}
-use Rattle.marker.specs.Steps.{MarkedAs, Markable}
+use Rattle.marks.specs.Steps.{MarkedAs, Markable}
 use Rattle.lawful.proofs.Accepted.{accepted-lawful, has-sheet-of}
 use Rattle.dayfile.proofs.Readings.{read-day}
 

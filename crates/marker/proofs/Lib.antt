@@ -1,7 +1,4 @@
 -- The laws that the functions' proofs cite.
-pub mod Coding
-pub mod Fair
-pub mod Memory
 pub mod Files
 -- for callers: demand 3
 pub mod Decode

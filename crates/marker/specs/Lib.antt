@@ -1,4 +1,2 @@
 -- What the marker answers, and what stands in the output buffer afterwards.
 pub mod Marking
--- What its parts answer.
-pub mod Steps

@@ -5,14 +5,12 @@ use mathlib.Core.Logic.{_⊎_}
 use Prim.Native.Nat.{ℕ, zero, suc, _-_}
 use lib.ListN.{length, getD, drop}
 use Rattle.fairness.specs.Exchange.{Move}
-use Rattle.model.specs.Book.{Book, Grid}
-use Rattle.model.specs.Search.{Found, PathOn}
-use Rattle.model.specs.Marks.{Mark, wasteful, improvable, tied, settled, Result, markOf, resultOf, moveBytes}
+use Rattle.model.specs.Marks.{Mark, Result, markOf, resultOf}
 use Rattle.dayfile.specs.Layout.{bookOf}
 use Rattle.dayfile.specs.Table.{markLines}
 use Rattle.dayfile.specs.Outcome.{Outcome, turnedAway, answer, outcome, Defined}
-use Rattle.dayfile.specs.Memory.{front}
 pub use Rattle.dayfile.specs.Layout.{markedSheet}
+pub use Rattle.marks.specs.Buffer.{PathWritten, BufferAfter}
 use Rattle.answers.specs.declared.Marking.{Marking}
 use Rattle.answers.specs.Answers.{told}
 
@@ -32,22 +30,6 @@ unfoldable pub movesIn : ℕ → List ℕ → List Move
 movesIn zero buf = []
 movesIn (suc n) buf =
     record { window = getD buf 0 0 - 1; giver = getD buf 1 0 - 1; taker = getD buf 2 0 - 1 } ∷ movesIn n (drop 3 buf)
-
--- a path with the receiver, the donor and the number of moves that the search rule picks is written at the buffer's front, and
--- the bytes after it keep their values. Its windows and middle seats are free.
-pub record PathWritten (b : Book) (s : Grid) (f : Found) (before after : List ℕ) : Type 0 where
-  pub moves : List Move
-  pub path : PathOn b s (f .receiver) (f .donor) moves
-  pub count : length moves ≡ f .moves
-  pub bytes : after ≡ front (moveBytes moves) before
-
--- marks 2 and 3 write a path; marks 1 and 4 and a refusal change no byte
-abbrev pub BufferAfter : Book → Grid → Outcome Mark → List ℕ → List ℕ → Type 0
-BufferAfter b s (turnedAway q) before after = after ≡ before
-BufferAfter b s (answer (wasteful j i)) before after = after ≡ before
-BufferAfter b s (answer (improvable f)) before after = PathWritten b s f before after
-BufferAfter b s (answer (tied f)) before after = PathWritten b s f before after
-BufferAfter b s (answer settled) before after = after ≡ before
 
 -- the marker's contract: down its lines, the result of the mark that the rules give, and the buffer holds what goes with that mark
 abbrev pub Marks : (file before after : List ℕ) → Marking → Type 0

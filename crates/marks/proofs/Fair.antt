@@ -14,8 +14,8 @@ use Rattle.exchange.specs.Paths.{Writable, Answers}
 use Rattle.exchange.proofs.Theorems.{foundBy, on-lists}
 use Rattle.answers.specs.declared.Marking.{Marking}
 use Rattle.answers.specs.declared.Marking.the-variants.{Improvable, Tied, Settled}
-use Rattle.marker.specs.Marking.{PathWritten}
-use Rattle.marker.specs.Steps.{fairMark, MarkedAs}
+use Rattle.marks.specs.Buffer.{PathWritten}
+use Rattle.marks.specs.Steps.{fairMark, MarkedAs}
 
 -- an answer that goes with a mark goes with the same mark under another name
 pub marked-as : {b : Book} {s : Grid} {m n : Mark} {before after : List ℕ} {r : Marking} → n ≡ m → MarkedAs b s m before after r →

@@ -1,11 +1,11 @@
--- `marker::mark_sheet` meets its contract: by what the search for waste answers.
+-- `marks::mark_sheet` meets its contract: by what the search for waste answers.
 use borrow.Author.Needs.{needs}
 use Prim.Native.Nat.{_<_}
 use native.Mathlib.Omega.{arith}
 use Rattle.dayfile.proofs.Used.{range-in}
-use Rattle.marker.proofs.Memory.{shows, searchable, wasted-small, tells, waste-marked, full-marked}
-use Rattle.marker.proofs.mark_sheet.Statement.{statement}
-use Rattle.marker.proofs.mark_sheet.Tie as tie
+use Rattle.marks.proofs.Memory.{shows, searchable, wasted-small, tells, waste-marked, full-marked}
+use Rattle.marks.proofs.mark_sheet.Statement.{statement}
+use Rattle.marks.proofs.mark_sheet.Tie as tie
 
 -- what the search for waste found are small numbers
 small : (c : tie.After-known-told) → (c .before .window .given .0 .0 < 24) × (c .before .window .given .0 .1 .0 < 32)

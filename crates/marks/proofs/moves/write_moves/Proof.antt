@@ -1,4 +1,4 @@
--- `marker::moves::write_moves` meets its contract. Each turn writes one move.
+-- `marks::moves::write_moves` meets its contract. Each turn writes one move.
 use borrow.Author.Needs.{needs}
 use Prim.Native.Nat.{_-_, _*_, _≤_}
 use native.Mathlib.Omega.{arith}
@@ -9,9 +9,9 @@ use Rattle.lists.proofs.Buffers.{stored-length}
 use Rattle.sheet.specs.declared.Move.{Move}
 use Rattle.exchange.specs.Paths.{InByte}
 use Rattle.sheet.specs.Sheets.{moveOf}
-use Rattle.marker.proofs.Coding.{coded, coded-none, coded-more, coded-all, move-inside, byte-at}
-use Rattle.marker.proofs.moves.write_moves.Statement.{statement}
-use Rattle.marker.proofs.moves.write_moves.Tie as tie
+use Rattle.marks.proofs.Coding.{coded, coded-none, coded-more, coded-all, move-inside, byte-at}
+use Rattle.marks.proofs.moves.write_moves.Statement.{statement}
+use Rattle.marks.proofs.moves.write_moves.Tie as tie
 
 abbrev zeroMove : Move
 zeroMove = record { window = 0; giver = 0; taker = 0 }

@@ -1,9 +1,9 @@
--- `marker::mark_full` meets its contract: by the kind of path that the search finds.
+-- `marks::mark_full` meets its contract: by the kind of path that the search finds.
 use borrow.Author.Needs.{needs}
 use native.Mathlib.Omega.{arith}
-use Rattle.marker.proofs.Fair.{improvable-marked, tied-marked, settled-marked}
-use Rattle.marker.proofs.mark_full.Statement.{statement}
-use Rattle.marker.proofs.mark_full.Tie as tie
+use Rattle.marks.proofs.Fair.{improvable-marked, tied-marked, settled-marked}
+use Rattle.marks.proofs.mark_full.Statement.{statement}
+use Rattle.marks.proofs.mark_full.Tie as tie
 
 write-moves-requires : tie.Need-write-moves-requires
 write-moves-requires c κs =

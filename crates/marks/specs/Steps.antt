@@ -14,7 +14,7 @@ use Rattle.dayfile.specs.Memory.{bookIn, cellsIn}
 use Rattle.dayfile.specs.declared.Book as Memory
 use Rattle.answers.specs.declared.Marking.{Marking}
 use Rattle.answers.specs.Answers.{told}
-use Rattle.marker.specs.Marking.{BufferAfter}
+use Rattle.marks.specs.Buffer.{BufferAfter}
 
 -- the mark of a sheet that is not wasteful: the first that holds of 2, 3, 4
 unfoldable pub fairMark : Book → Grid → Mark

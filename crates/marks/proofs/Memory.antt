@@ -18,9 +18,9 @@ use Rattle.waste.specs.declared.Waste.the-variants.{Nowhere, At}
 use Rattle.answers.specs.declared.Marking.{Marking}
 use Rattle.answers.specs.declared.Marking.the-variants.{Wasteful}
 use Rattle.waste.specs.Wastes.{Tells}
-use Rattle.marker.specs.Steps.{fairMark, MarkedAs, Markable}
+use Rattle.marks.specs.Steps.{fairMark, MarkedAs, Markable}
 use Rattle.dayfile.proofs.Used.{cell-in}
-use Rattle.marker.proofs.Fair.{marked-as}
+use Rattle.marks.proofs.Fair.{marked-as}
 
 module _ (m : Memory.Book) (caps sheet : Grid) (h : Markable m caps sheet) where
   -- the numbers that tell the book
