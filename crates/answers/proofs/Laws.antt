@@ -1,6 +1,6 @@
 -- How large the numbers of a mark can be. Assumes nothing.
 use mathlib.Core.Path.{_≡_}
-use Prim.Native.Nat.{ℕ, _≤_, zero-le}
+use Prim.Native.Nat.{_≤_, zero-le}
 use Rattle.model.specs.Marks.{Result}
 use Rattle.dayfile.specs.Outcome.{Outcome, turnedAway, answer}
 use Rattle.answers.specs.declared.Numbers.{Numbers}

@@ -1,6 +1,5 @@
 -- What the numbers of an answer tell: mark 0 is a refusal, and any other the result of a mark. Assumes nothing.
 use mathlib.Core.Path.{_≡_, refl, ap, sym, _∙_}
-use Prim.Native.Nat.{ℕ}
 use native.Mathlib.Omega.{arith}
 use Rattle.dayfile.specs.Table.{refuse}
 use Rattle.dayfile.specs.Outcome.{turnedAway, answer}

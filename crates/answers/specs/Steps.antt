@@ -1,5 +1,5 @@
 -- What is asked of an answer before it becomes numbers of 32 bits.
-use Prim.Native.Nat.{ℕ, _≤_}
+use Prim.Native.Nat.{_≤_}
 use Rattle.model.specs.Marks.{Result}
 use Rattle.dayfile.specs.Outcome.{Outcome, turnedAway, answer}
 

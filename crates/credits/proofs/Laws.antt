@@ -2,14 +2,14 @@
 use mathlib.Core.Path.{_≡_, refl}
 use mathlib.Core.List.{List}
 use mathlib.Core.Option.{Option, none, some}
-use Prim.Native.Nat.{ℕ, _≤_}
+use Prim.Native.Nat.{ℕ}
 use native.Mathlib.Omega.{arith}
 use lib.ListN.{length}
 use Rattle.model.specs.Marks.{markOf}
 use Rattle.model.proofs.Marks.{within-book}
 use Rattle.dayfile.specs.Layout.{bookOf}
 use Rattle.dayfile.specs.Table.{Refusal, firstOf, readLines, markerLines, sheetLines, bufferLines, markLines, movesRoom}
-use Rattle.dayfile.specs.Outcome.{Outcome, turnedAway, answer, unless}
+use Rattle.dayfile.specs.Outcome.{unless}
 use Rattle.dayfile.specs.declared.Day.{Day}
 use Rattle.dayfile.specs.declared.Written.{Written}
 use Rattle.dayfile.specs.Memory.{WritesDay}

@@ -1,9 +1,8 @@
 -- Grids and sheets that the engine starts from.
 use mathlib.Core.Path.{_≡_, refl}
-use mathlib.Core.List.{List, []}
 use Prim.Native.Nat.{ℕ, zero, suc}
 use native.Mathlib.Omega.{arith}
-use lib.ListN.{getD, replicate}
+use lib.ListN.{replicate}
 use Rattle.fairness.specs.Instance.{Feasible}
 use Rattle.fairness.proofs.Sums.{sum-none}
 use Rattle.lists.proofs.Arrays.{zeros-at}

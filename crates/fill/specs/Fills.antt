@@ -2,11 +2,12 @@
 use mathlib.Core.Path.{_≡_}
 use mathlib.Core.Logic.{_≢_}
 use mathlib.Core.List.{List}
-use Prim.Native.Nat.{ℕ, min, _≤_, _<_}
+use Prim.Native.Nat.{ℕ, min, _+_, _-_, _≤_, _<_}
 use lib.ListN.{getD}
 use Rattle.fairness.specs.Sums.{sum}
 use Rattle.fairness.specs.Instance.{Instance, Sheet, Feasible, Wasteful}
 use Rattle.model.specs.Book.{Grid, cell, Shaped}
+use Rattle.sheet.specs.declared.Move.{Move}
 
 -- feasible, with nothing wasted
 pub record Full (I : Instance) (S : Sheet) : Type 0 where
@@ -37,3 +38,11 @@ pub record Handed (n j : ℕ) (caps : Grid) (supply : ℕ) (g r : Grid) : Type 0
 pub record Filled (n m : ℕ) (caps : Grid) (supplies : List ℕ) (r : Grid) : Type 0 where
   pub shape : Shaped 32 24 r
   pub full : (j : ℕ) → j < m → FullAt n j caps (getD supplies j 0) r
+
+-- ---- one move
+
+-- a move lets a credits through: the giver has them, the taker has room for them, and its cell holds them
+pub record Passes (caps g : Grid) (step : Move) (a : ℕ) : Type 0 where
+  pub has : a ≤ cell g (step .giver) (step .window)
+  pub free : a ≤ cell caps (step .taker) (step .window) - cell g (step .taker) (step .window)
+  pub holds : cell g (step .taker) (step .window) + a ≤ 65535

@@ -1,13 +1,14 @@
-// Free credits handed out: window by window, seat by seat, up to the caps.
+// Free credits handed out: window by window, seat by seat, up to the caps. How many a cell has room for, and a move lets through.
 ghost use mathlib.Core.Path.{_≡_};
 ghost use Prim.Native.Nat.{min, _+_, _-_, _≤_, _<_};
 ghost use Rattle.fairness.specs.Sums.{sum};
 ghost use Rattle.fairness.specs.Instance.{Feasible};
 ghost use Rattle.model.specs.Book.{cell, Shaped};
 ghost use Rattle.instance.specs.Terms.{instanceIn};
-ghost use Rattle.fill.specs.Fills.{FeasibleAt, Handed, Filled};
+ghost use Rattle.fill.specs.Fills.{FeasibleAt, Handed, Filled, Passes};
 use instance::Terms;
 use sheet::Caps;
+use sheet::Move;
 
 pub fn lesser(a: u16, b: u16) -> u16
     ensures { λ r. ⌜ r ≡ min a b ⌝ }
@@ -20,6 +21,17 @@ pub fn room(cell: u16, cap: u16) -> u16
     ensures { λ r. ⌜ (r ≡ cap - cell) × (cell + r ≤ 65535) ⌝ }
 {
     if cell < cap { cap - cell } else { 0 }
+}
+
+// As many credits as can move from a giver to a taker in a window: the giver has them, and the taker has room for them.
+pub fn passes(grid: &Caps, caps: &Caps, step: Move) -> u16
+    requires { ⌜ (step .window < 24) × ((step .giver < 32) × (step .taker < 32)) ⌝ }
+    ensures { λ r. ⌜ Passes (now (caps .entry)) (now (grid .entry)) step r ⌝ }
+{
+    let w = step.window;
+    let g = step.giver;
+    let t = step.taker;
+    lesser(grid[g][w], room(grid[t][w], caps[t][w]))
 }
 
 // What is left of a window's supply.

@@ -4,8 +4,8 @@ use mathlib.Core.Path.{_≡_, refl, sym, _∙_, ap, ap₂}
 use Prim.Native.Nat.{ℕ, zero, suc, _+_, _≤_, _<_}
 use native.Mathlib.Numerals.{add-one}
 use native.Mathlib.Omega.{arith}
-use lib.ListN.{length, take, getD, List·getD-eq-default}
-use lib.Seq.{ext-getD, getD-take, length-take-le}
+use lib.ListN.{length, getD, List·getD-eq-default}
+use lib.Seq.{ext-getD}
 use Rattle.fairness.specs.Leximin.{table}
 use Rattle.fairness.proofs.Lists.{table-length}
 pub use Rattle.fairness.proofs.Lists.{table-length, table-All}

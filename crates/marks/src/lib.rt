@@ -1,5 +1,4 @@
 // The mark of a lawful sheet in memory, and the bytes of the exchange path that goes with it.
-ghost use mathlib.Core.Path.{_≡_};
 ghost use Prim.Native.Nat.{_≤_};
 ghost use lib.ListN.{length};
 ghost use Rattle.fairness.specs.Instance.{Feasible};

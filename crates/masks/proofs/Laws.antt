@@ -5,7 +5,7 @@ use Prim.Native.Nat.{ℕ, zero, suc, _+_, _-_, _/_, _^_, _<_, _≤_}
 use native.Mathlib.Nat.{pow-suc}
 use native.Mathlib.Decide.{ℕ-discrete, decLt}
 use native.Mathlib.Omega.{arith}
-use Rattle.masks.specs.Sets.{bit, In, Within, countBelow, sizeOf, Removed, Full}
+use Rattle.masks.specs.Sets.{bit, In, Within, countBelow, sizeOf, Removed}
 
 -- ---- members
 

@@ -12,7 +12,7 @@ use Rattle.model.specs.Book.{Book, Grid, SheetOf, cell, seats, windows, instanc
 use Rattle.model.proofs.Agree.{agree-settled}
 use Rattle.dayfile.specs.Bounds.{Fit}
 use Rattle.dayfile.specs.Layout.{bookOf}
-use Rattle.dayfile.specs.Table.{Refusal, refuse, firstOf, line16, readLines, bufferLines, planLines, plannedLength}
+use Rattle.dayfile.specs.Table.{refuse, firstOf, line16, readLines, bufferLines, planLines, plannedLength}
 use Rattle.dayfile.specs.Memory.{sizedGrid, bookIn, dayBook, fileWith, front, Reads}
 use Rattle.dayfile.specs.declared.Book as Memory
 use Rattle.dayfile.specs.declared.Reading.{Reading}

@@ -5,8 +5,7 @@ use mathlib.Core.List.{List}
 use Prim.Native.Nat.{ℕ, _+_, _≤_, _<_}
 use native.Mathlib.Decide.{ℕ-discrete, decLt}
 use native.Mathlib.Omega.{arith}
-use lib.ListN.{length, set, replicate}
-use lib.Seq.{getD-set-same, getD-set-other}
+use lib.ListN.{replicate}
 use Rattle.lists.proofs.Arrays.{Filled, filled-at, zeros-at}
 use Rattle.masks.specs.Sets.{In, Inserted}
 use Rattle.masks.proofs.Laws.{bit-zero}

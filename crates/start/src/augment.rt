@@ -1,25 +1,14 @@
 // Credits pushed along an augmenting path, many at a time.
 ghost use Prim.Native.Nat.{_≤_, _<_};
-ghost use Rattle.start.specs.Keeps.{Keeps, Passes};
+ghost use Rattle.start.specs.Keeps.{Keeps};
 use crate::choose::Augmentation;
 use crate::residual::Phase;
 use crate::residual::Residual;
 use crate::residual::note_step;
 use fill::lesser;
-use fill::room;
+use fill::passes;
 use sheet::Caps;
 use sheet::Move;
-
-// As many credits as a step of a path lets through: the giver has them, and the taker has room for them.
-fn passes(grid: &Caps, caps: &Caps, step: Move) -> u16
-    requires { ⌜ (step .window < 24) × ((step .giver < 32) × (step .taker < 32)) ⌝ }
-    ensures { λ r. ⌜ Passes (now (caps .entry)) (now (grid .entry)) step r ⌝ }
-{
-    let w = step.window;
-    let g = step.giver;
-    let t = step.taker;
-    lesser(grid[g][w], room(grid[t][w], caps[t][w]))
-}
 
 // As many of the credits as every step of the path lets through.
 fn bottleneck(grid: &Caps, caps: &Caps, a: Augmentation) -> u16

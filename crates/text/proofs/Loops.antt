@@ -1,10 +1,10 @@
 -- The loop that stores digits: its invariant, and what a turn does.
 use mathlib.Core.Path.{_≡_, refl, sym, ap, subst, _∙_}
-use mathlib.Core.List.{List, [], _∷_, _++_}
+use mathlib.Core.List.{List, [], _∷_}
 use Prim.Native.Nat.{ℕ, suc, _+_, _-_, _/_, _%_, _≤_, _<_}
 use native.Mathlib.Omega.{arith}
 use lib.ListN.{length, take, drop, getD, set, length-set}
-use lib.Seq.{take-suc, take-at, take-take, take-length, drop-cons, drop-length, getD-at, getD-take, length-take-le}
+use lib.Seq.{take-at, take-take, take-length, drop-cons, drop-length, getD-at, getD-take}
 use Rattle.lists.specs.Buffers.{putAt, Stored}
 use Rattle.lists.proofs.Buffers.{put-first}
 use Rattle.text.specs.Text.{digits}

@@ -1,5 +1,4 @@
 -- `planner::planned_sheet` meets its contract: what the engine settles.
-use borrow.Author.Needs.{needs}
 use Rattle.planner.proofs.Steps.{small-caps}
 use Rattle.planner.proofs.planned_sheet.Statement.{statement}
 use Rattle.planner.proofs.planned_sheet.Tie as tie

@@ -1,6 +1,5 @@
 use mathlib.Core.Path.{refl}
 use Rattle.dayfile.specs.Table.{optionLines}
-use borrow.Author.Needs.{needs}
 use Rattle.writer.proofs.lines.check_options.Statement.{statement}
 use Rattle.writer.proofs.lines.check_options.Tie as tie
 

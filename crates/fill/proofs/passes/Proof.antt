@@ -1,8 +1,8 @@
--- `augment::passes` meets its contract: the lesser of what the giver has and the taker's room.
+-- `fill::passes` meets its contract: the lesser of what the giver has and the taker's room.
 use borrow.Author.Needs.{needs}
 use native.Mathlib.Omega.{arith}
-use Rattle.start.proofs.augment.passes.Statement.{statement}
-use Rattle.start.proofs.augment.passes.Tie as tie
+use Rattle.fill.proofs.passes.Statement.{statement}
+use Rattle.fill.proofs.passes.Tie as tie
 
 returns : tie.Need-returns
 returns c =
