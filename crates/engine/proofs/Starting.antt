@@ -1,4 +1,4 @@
--- Grids and sheets that the engine starts from.
+-- Grids that the engine starts from.
 use mathlib.Core.Path.{_≡_, refl}
 use Prim.Native.Nat.{ℕ, zero, suc}
 use native.Mathlib.Omega.{arith}

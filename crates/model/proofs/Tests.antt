@@ -22,8 +22,3 @@ not-true false q = refl
 
 pub true-not-false : (a : Bool) → a ≡ true → a ≡ false → ⊥
 true-not-false a p q = true≢false (sym p ∙ q)
-
--- a test is true or false
-pub decided : (a : Bool) → (a ≡ true) ⊎ (a ≡ false)
-decided true = inl refl
-decided false = inr refl

@@ -1,7 +1,7 @@
 -- The rules of paper 01 and demand 3: a mark passes exactly where the sheet's list is the book's highest. Stated with the definitions
 -- of specs/ alone; the other files of this folder work towards them.
 use mathlib.Core.Path.{_≡_, refl, sym}
-use mathlib.Core.Bool.{true, false, true≢false}
+use mathlib.Core.Bool.{true, true≢false}
 use mathlib.Core.Logic.{_⊎_, _↔_}
 use mathlib.Core.List.{List}
 use Prim.Native.Nat.{ℕ, _<_}

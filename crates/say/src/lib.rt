@@ -115,24 +115,27 @@ pub fn all_from(bytes: &[u8], at: usize, value: u8) -> bool {
     true
 }
 
+// As many counts as a report can have.
+pub const COUNTS: usize = 52;
+
 fn say_count(n: u32) {
     say_number(n as usize);
 }
 
 // A byte of a report: one from 128 on stands for the count at that place.
-fn say_part(c: u8, counts: &[u32; 52]) {
+fn say_part(c: u8, counts: &[u32; COUNTS]) {
     let place = c as usize;
     if place < 128 {
         say_text(&[c]);
         return;
     }
-    if place < 180 {
+    if place < 128 + COUNTS {
         say_count(counts[place - 128]);
     }
 }
 
 // A text with counts in it.
-pub fn say_report(text: &[u8], counts: &[u32; 52]) {
+pub fn say_report(text: &[u8], counts: &[u32; COUNTS]) {
     let mut i = 0;
     while i < text.len() {
         say_part(text[i], counts);

@@ -1,5 +1,6 @@
 // Trials: paper 01's example that is left to a test, and random books and files through all calls. What the library says of small books is
 // held against the crate `oracle`. The numbers are drawn from a fixed start.
+use say::COUNTS;
 use say::front;
 use say::replied;
 use say::say_hex;
@@ -52,7 +53,7 @@ fn trial(kind: Kind, state: &mut u32, tally: Tally) -> Tally {
 
 // So many trials of a kind, and the report of what was counted.
 fn run(kind: Kind, n: u32, state: &mut u32, text: &[u8]) {
-    let mut tally = [0u32; 52];
+    let mut tally = [0u32; COUNTS];
     for _ in 0..n {
         let next = trial(kind, state, tally);
         tally = next;
@@ -60,13 +61,12 @@ fn run(kind: Kind, n: u32, state: &mut u32, text: &[u8]) {
     say_report(text, &tally);
 }
 
-fn main() {
-    let mut state = 1;
-    k11();
+// In a report the byte 128 + 3 * number + column stands for a count of the tally, and the last one, \xb3, for how much was wrong.
+fn small_books(state: &mut u32) {
     run(
         Kind::Small,
         40000,
-        &mut state,
+        state,
         b"small books planned: \x82
   sheets with mark 1: \x83
   sheets with mark 2: \x86
@@ -78,10 +78,13 @@ fn main() {
   wrong: \xb3
 ",
     );
+}
+
+fn damaged_files(state: &mut u32) {
     run(
         Kind::Damaged,
         20000,
-        &mut state,
+        state,
         b"damaged files and books, by line: marker, planner, writer
   taken: \x80, \x81, \x82
   line 1: \x83, \x84, \x85
@@ -103,12 +106,23 @@ fn main() {
   wrong: \xb3
 ",
     );
+}
+
+fn full_books(state: &mut u32) {
     run(
         Kind::Full,
         300,
-        &mut state,
+        state,
         b"full-size books planned and marked: \x80
   wrong: \xb3
 ",
     );
+}
+
+fn main() {
+    let mut state = 1;
+    k11();
+    small_books(&mut state);
+    damaged_files(&mut state);
+    full_books(&mut state);
 }

@@ -1,7 +1,8 @@
 // Counts of what was seen: three for each of 17 numbers, and how much was wrong.
 ghost use Prim.Native.Nat.{_<_};
+use say::COUNTS;
 
-pub type Tally = [u32; 52];
+pub type Tally = [u32; COUNTS];
 
 // One more of a number, in one of the three columns. Numbers from 17 on are not counted.
 pub fn count(mut tally: Tally, column: usize, number: usize, right: bool) -> Tally

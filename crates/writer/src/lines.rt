@@ -2,7 +2,7 @@
 // written.
 ghost use mathlib.Core.Path.{_≡_};
 ghost use mathlib.Core.List.{[], _∷_, _++_};
-ghost use Prim.Native.Nat.{_+_, _*_, _<_, _≤_};
+ghost use Prim.Native.Nat.{_<_, _≤_};
 ghost use Rattle.model.specs.Book.{Grid};
 ghost use Rattle.sheet.specs.Sheets.{gridOf};
 ghost use Rattle.dayfile.specs.Layout.{contentsEnd};

@@ -1,4 +1,4 @@
--- `CreditsBook::of` meets its contract: each part in its place.
+-- `answers::CreditsBook::of` meets its contract: each part in its place.
 use mathlib.Core.Bool.{Bool}
 use mathlib.Core.Path.{ap, sym}
 use Rattle.dayfile.specs.declared.Day.{Day}

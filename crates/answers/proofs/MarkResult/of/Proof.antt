@@ -1,4 +1,4 @@
--- `MarkResult::of` meets its contract: the numbers of the answer.
+-- `answers::MarkResult::of` meets its contract: the numbers of the answer.
 use mathlib.Core.Path.{ap}
 use borrow.Author.Needs.{needs}
 use Rattle.answers.specs.Answers.{told}

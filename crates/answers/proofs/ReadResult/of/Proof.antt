@@ -1,4 +1,4 @@
--- `ReadResult::of` meets its contract: the numbers of each case, and the book.
+-- `answers::ReadResult::of` meets its contract: the numbers of each case, and the book.
 use mathlib.Core.Path.{ap, sym, _∙_}
 use Prim.Native.Nat.{ℕ}
 use borrow.Author.Needs.{needs}

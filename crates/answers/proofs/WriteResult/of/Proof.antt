@@ -1,4 +1,4 @@
--- `WriteResult::of` meets its contract: the numbers of each case.
+-- `answers::WriteResult::of` meets its contract: the numbers of each case.
 use mathlib.Core.Path.{ap, sym}
 use borrow.Author.Needs.{needs}
 use Rattle.answers.specs.Numbers.{writeNumbers}
