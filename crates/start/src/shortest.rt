@@ -36,16 +36,23 @@ fn skip_shut(residual: &Residual, windows: u32, front: u32) -> u32 {
     0
 }
 
+// The receiver alone.
+fn rooted(receiver: usize) -> Tree
+    requires { ⌜ receiver < 32 ⌝ }
+{
+    Tree {
+        set: insert(0, receiver),
+        windows: [0u8; 32],
+        takers: [0u8; 32],
+    }
+}
+
 // Layer by layer: each window that a seat of the last layers can take in adds all who give there. A turn notes one seat that was found, or
 // opens one window, or goes on to the next layer; each layer but the last opens a window, so the turns suffice.
 pub(crate) fn grow(residual: &Residual, windows: usize, receiver: usize) -> Tree
     requires { ⌜ (windows ≤ 24) × (receiver < 32) ⌝ }
 {
-    let mut tree = Tree {
-        set: insert(0, receiver),
-        windows: [0u8; 32],
-        takers: [0u8; 32],
-    };
+    let mut tree = rooted(receiver);
     let mut front = 0;
     let mut shut = full(windows);
     let mut rest = 0;

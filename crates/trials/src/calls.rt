@@ -4,6 +4,7 @@ use answers::Numbers;
 use dayfile::Day;
 use dayfile::LONGEST_FILE;
 use draws::put_day;
+use lawful::MOVES_ROOM;
 use listing::LISTING_MAX;
 use say::Reply;
 use say::all_from;
@@ -54,7 +55,7 @@ fn marked(m: Numbers) -> Reply {
 }
 
 fn settled(file: &[u8]) -> bool {
-    let mut moves = [255u8; 93];
+    let mut moves = [255u8; MOVES_ROOM];
     mark(file, &mut moves).mark == 4
 }
 
