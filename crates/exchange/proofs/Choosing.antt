@@ -12,13 +12,14 @@ use Rattle.fairness.proofs.Theorems.{path-within, improves-apart, ties-apart}
 use Rattle.model.proofs.Tests.{not-true}
 use Rattle.reach.specs.declared.Graph.{Graph}
 use Rattle.paths.specs.declared.ExchangePath.{ExchangePath}
-use Rattle.search.specs.declared.Scores.{Scores}
+use Rattle.receiver.specs.declared.Scores.{Scores}
 use Rattle.paths.specs.declared.Kind.{Kind}
 use Rattle.paths.specs.declared.Kind.the-variants.{None, Improving, WronglyTied}
 use Rattle.paths.specs.Paths.{movesOf}
-use Rattle.search.specs.Tests.{testBy, scoreAt}
+use Rattle.receiver.specs.Tests.{testBy, scoreAt}
 use Rattle.paths.specs.Steps.{Drawn, Nearest}
-use Rattle.search.specs.Steps.{Donor, NoDonor, FirstPair}
+use Rattle.receiver.specs.Donors.{Donor, NoDonor}
+use Rattle.search.specs.Steps.{FirstPair}
 use Rattle.paths.proofs.Bridge.{within-reach, reach-seat}
 use Rattle.exchange.specs.Paths.{Chosen}
 use Rattle.exchange.proofs.Tests.{testOf, Scored}

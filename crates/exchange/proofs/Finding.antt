@@ -12,12 +12,13 @@ use Rattle.instance.specs.Terms.{instanceIn, Told, Shows, Ranged}
 use Rattle.instance.proofs.Told.{told-in, shows-itself}
 use Rattle.reach.specs.declared.Graph.{Graph}
 use Rattle.paths.specs.declared.ExchangePath.{ExchangePath}
-use Rattle.search.specs.declared.Scores.{Scores}
+use Rattle.receiver.specs.declared.Scores.{Scores}
 use Rattle.paths.specs.declared.Kind.{Kind}
 use Rattle.paths.specs.declared.Kind.the-variants.{None, Improving, WronglyTied}
 use Rattle.paths.specs.Paths.{movesOf}
 use Rattle.paths.specs.Steps.{Drawn, Nearest}
-use Rattle.search.specs.Steps.{NoDonor, FirstPath, Finds}
+use Rattle.receiver.specs.Donors.{NoDonor}
+use Rattle.search.specs.Steps.{FirstPath, Finds}
 use Rattle.exchange.specs.Paths.{InByte, Writable, Chosen, Answers}
 use Rattle.exchange.proofs.Tests.{testOf, Scored}
 use Rattle.exchange.proofs.Choosing.{chosen, nobody}

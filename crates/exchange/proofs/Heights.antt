@@ -13,8 +13,8 @@ use Rattle.sheet.proofs.Sums.{sum-bound}
 use Rattle.instance.specs.declared.Terms.{Terms}
 use Rattle.instance.specs.Terms.{instanceIn, Told, Shows, Small}
 use Rattle.instance.proofs.Told.{feasible-small}
-use Rattle.search.specs.declared.Scores.{Scores}
-use Rattle.search.specs.Tests.{Bounded}
+use Rattle.receiver.specs.declared.Scores.{Scores}
+use Rattle.receiver.specs.Tests.{Bounded}
 use Rattle.exchange.proofs.Tests.{Scored}
 
 -- the first k heights are known

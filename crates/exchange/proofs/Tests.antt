@@ -5,7 +5,7 @@ use Prim.Native.Nat.{ℕ, _<_}
 use lib.ListN.{getD}
 use Rattle.fairness.specs.Instance.{Instance, Sheet, height}
 use Rattle.fairness.specs.Exchange.{improvesAt, tiesAt}
-use Rattle.search.specs.declared.Scores.{Scores}
+use Rattle.receiver.specs.declared.Scores.{Scores}
 use Rattle.paths.specs.declared.Kind.{Kind}
 use Rattle.paths.specs.declared.Kind.the-variants.{None, Improving, WronglyTied}
 

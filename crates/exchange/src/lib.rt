@@ -13,7 +13,7 @@ ghost use Rattle.exchange.specs.Paths.{Writable, Answers};
 use instance::Terms;
 use paths::ExchangePath;
 use reach::Graph;
-use search::Scores;
+use receiver::Scores;
 use search::find;
 use sheet::Caps;
 use sheet::row_total;

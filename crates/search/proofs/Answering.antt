@@ -3,11 +3,12 @@ use mathlib.Core.Path.{_≡_, sym, subst⁻¹, subst₂}
 use Prim.Native.Nat.{ℕ}
 use Rattle.reach.specs.declared.Graph.{Graph}
 use Rattle.paths.specs.declared.ExchangePath.{ExchangePath}
-use Rattle.search.specs.declared.Scores.{Scores}
+use Rattle.receiver.specs.declared.Scores.{Scores}
 use Rattle.paths.specs.declared.Kind.{Kind}
 use Rattle.paths.specs.declared.Kind.the-variants.{None, Improving, WronglyTied}
 use Rattle.paths.specs.Steps.{Nearest}
-use Rattle.search.specs.Steps.{NoDonor, FirstPair, FirstPath, Finds}
+use Rattle.receiver.specs.Donors.{NoDonor}
+use Rattle.search.specs.Steps.{FirstPair, FirstPath, Finds}
 
 module _ (scores : Scores) (graph : Graph) (seats : ℕ) (x : ExchangePath) where
   of-kind : (kind : Kind) → x .kind ≡ kind → Finds kind scores graph seats x → Finds (x .kind) scores graph seats x

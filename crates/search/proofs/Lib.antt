@@ -1,4 +1,3 @@
 -- The laws that the functions' proofs cite.
 pub mod Donors
-pub mod Seeing
 pub mod Answering

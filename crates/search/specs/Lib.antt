@@ -1,3 +1,2 @@
 -- What the search answers, and what its parts do.
-pub mod Tests
 pub mod Steps

@@ -2,38 +2,16 @@
 use mathlib.Core.Path.{_≡_}
 use Prim.Native.Nat.{ℕ, _<_}
 use Rattle.reach.specs.declared.Graph.{Graph}
-use Rattle.reach.specs.Graphs.{Reached}
 use Rattle.paths.specs.declared.Kind.{Kind}
 use Rattle.paths.specs.declared.Kind.the-variants.{None, Improving, WronglyTied}
 use Rattle.paths.specs.declared.ExchangePath.{ExchangePath}
 use Rattle.paths.specs.Steps.{Nearest}
-use Rattle.search.specs.declared.Receiver.{Receiver}
-use Rattle.search.specs.declared.Receiver.the-variants as receiver
+use Rattle.receiver.specs.declared.Scores.{Scores}
+use Rattle.receiver.specs.Donors.{Donor, NoDonor}
 use Rattle.search.specs.declared.Pair.{Pair}
 use Rattle.search.specs.declared.Pair.the-variants.{Nobody, Between}
-use Rattle.search.specs.declared.Scores.{Scores}
-use Rattle.search.specs.Tests.{Wants}
 
 -- ---- a receiver and a donor
-
--- g reaches l, a donor that is wanted for it
-abbrev pub Donor : Kind → Scores → Graph → ℕ → ℕ → ℕ → Type 0
-Donor kind scores graph seats g l = Reached graph g l × Wants kind scores seats g l
-
--- no receiver has one
-abbrev pub NoDonor : Kind → Scores → Graph → ℕ → Type 0
-NoDonor kind scores graph seats = (g l : ℕ) → g < seats → Donor kind scores graph seats g l → ⊥
-
--- the first receiver that has a donor
-pub record First (kind : Kind) (scores : Scores) (graph : Graph) (seats g : ℕ) : Type 0 where
-  pub seat : g < seats
-  pub some : (l : ℕ) × Donor kind scores graph seats g l
-  pub earlier : (h k : ℕ) → h < g → Donor kind scores graph seats h k → ⊥
-
--- that receiver, or the fact that there is none
-abbrev pub Receives : Kind → Scores → Graph → ℕ → Receiver → Type 0
-Receives kind scores graph seats receiver.Nobody = NoDonor kind scores graph seats
-Receives kind scores graph seats (receiver.Seat g) = First kind scores graph seats g
 
 -- the first receiver that has a donor, and its lowest one
 pub record FirstPair (kind : Kind) (scores : Scores) (graph : Graph) (seats g l : ℕ) : Type 0 where

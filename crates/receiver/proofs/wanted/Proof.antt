@@ -1,7 +1,7 @@
--- `search::wanted` meets its contract.
+-- `receiver::wanted` meets its contract.
 use borrow.Author.Needs.{needs}
-use Rattle.search.proofs.wanted.Statement.{statement}
-use Rattle.search.proofs.wanted.Tie as tie
+use Rattle.receiver.proofs.wanted.Statement.{statement}
+use Rattle.receiver.proofs.wanted.Tie as tie
 
 returns-2 : tie.Need-returns-2
 returns-2 c = rw (c .before .enum-told2 .given .1) (c .improves .ensures)

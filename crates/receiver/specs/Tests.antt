@@ -5,8 +5,8 @@ use Prim.Native.Nat.{ℕ, _<_}
 use lib.ListN.{getD}
 use Rattle.fairness.specs.Exchange.{improves, tiesWrongly}
 use Rattle.fairness.specs.Numbers.{Moderate}
-use Rattle.search.specs.declared.Score.{Score}
-use Rattle.search.specs.declared.Scores.{Scores}
+use Rattle.receiver.specs.declared.Score.{Score}
+use Rattle.receiver.specs.declared.Scores.{Scores}
 use Rattle.paths.specs.declared.Kind.{Kind}
 use Rattle.paths.specs.declared.Kind.the-variants.{None, Improving, WronglyTied}
 

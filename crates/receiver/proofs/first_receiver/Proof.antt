@@ -1,4 +1,4 @@
--- `search::first_receiver` meets its contract.
+-- `receiver::first_receiver` meets its contract.
 use borrow.Author.Needs.{needs}
 use mathlib.Core.Path.{_≡_}
 use Prim.Native.Nat.{ℕ, _+_, _-_, _≤_, _<_}
@@ -7,12 +7,12 @@ use lib.ListN.{length}
 use borrow.Author.Count.{below-more}
 use Rattle.masks.specs.Sets.{sizeOf}
 use Rattle.masks.proofs.Laws.{removed-shrinks}
-use Rattle.search.specs.declared.Receiver.the-variants.{Nobody}
-use Rattle.search.specs.Steps.{Donor}
-use Rattle.search.proofs.Donors.{apart, none-wanted, none-reached}
-use Rattle.search.proofs.Seeing.{Seen, Looking, first, taken, taken-less, last, looked, window-small, found, joined}
-use Rattle.search.proofs.first_receiver.Statement.{statement}
-use Rattle.search.proofs.first_receiver.Tie as tie
+use Rattle.receiver.specs.declared.Receiver.the-variants.{Nobody}
+use Rattle.receiver.specs.Donors.{Donor}
+use Rattle.receiver.proofs.Wanting.{apart, none-wanted, none-reached}
+use Rattle.receiver.proofs.Seeing.{Seen, Looking, first, taken, taken-less, last, looked, window-small, found, joined}
+use Rattle.receiver.proofs.first_receiver.Statement.{statement}
+use Rattle.receiver.proofs.first_receiver.Tie as tie
 
 abbrev Inv-window : tie.InvT-window
 Inv-window kind scores seats rooms holders found₀ g wanted seen₀ front₀ windows k left₀ found seen front left =

@@ -1,4 +1,4 @@
--- `search::wanted_by` meets its contract.
+-- `receiver::wanted_by` meets its contract.
 use borrow.Author.Needs.{needs}
 use mathlib.Core.Path.{_≡_, sym, _∙_}
 use mathlib.Core.Bool.{true}
@@ -8,9 +8,9 @@ use native.Mathlib.Omega.{arith}
 use Rattle.model.proofs.Tests.{true-not-false}
 use Rattle.reach.specs.Graphs.{Collects}
 use Rattle.reach.proofs.Collect.{collect-first, collect-in, collect-out}
-use Rattle.search.specs.Tests.{testBy, scoreAt}
-use Rattle.search.proofs.wanted_by.Statement.{statement}
-use Rattle.search.proofs.wanted_by.Tie as tie
+use Rattle.receiver.specs.Tests.{testBy, scoreAt}
+use Rattle.receiver.proofs.wanted_by.Statement.{statement}
+use Rattle.receiver.proofs.wanted_by.Tie as tie
 
 abbrev Inv-loop : tie.InvT-loop
 Inv-loop kind seats g heights weights positions receiver set₀ l₀ set l =
