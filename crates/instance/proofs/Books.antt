@@ -1,53 +1,39 @@
 -- A loop that works out each seat's weight and place, and what its end tells of the book that is in memory. Assumes nothing.
 use mathlib.Core.Path.{_≡_, ap, sym, _∙_}
-use mathlib.Core.List.{List, []}
+use mathlib.Core.List.{List}
 use Prim.Native.Nat.{ℕ, _≤_, _<_}
 use native.Mathlib.Nat.{le-trans}
 use native.Mathlib.Omega.{arith}
 use lib.ListN.{getD}
 use Rattle.lists.proofs.Arrays.{Filled, filled-at}
 use Rattle.fairness.specs.Classes.{ClassWeight, weightOf}
-use Rattle.model.specs.Book.{Grid, cell, seats, windows, instanceOf}
+use Rattle.model.specs.Book.{Grid, seats, windows, instanceOf}
 use Rattle.dayfile.specs.Bounds.{Fit}
 use Rattle.dayfile.specs.Memory.{bookIn}
 use Rattle.dayfile.specs.declared.Book as Memory
-use Rattle.dayfile.proofs.Tables.{sized-at, sized-row}
+use Rattle.dayfile.proofs.Used.{class-in, supply-in, cap-in}
 use Rattle.dayfile.proofs.Held.{seats-in, windows-in}
 use Rattle.instance.specs.declared.Terms.{Terms}
 use Rattle.instance.specs.Terms.{Told, Ranged}
 
--- ---- the used entries of a book in memory are the book's
+-- ---- the used entries of a book in memory that fits are in range
 
-module _ (m : Memory.Book) (caps : Grid) where
-  class-is : (i : ℕ) → i < m .seats → getD (bookIn m caps .classes) i 0 ≡ getD (m .classes) i 0
-  unfolding bookIn
-  class-is i l = sized-at (m .seats) (m .classes) i l
+module _ (m : Memory.Book) (caps : Grid) (fit : Fit (bookIn m caps)) where
+  pub seats-most : m .seats ≤ 32
+  seats-most = omega (arith, fit .seats-high, seats-in m caps)
 
-  supply-is : (j : ℕ) → j < m .windows → getD (bookIn m caps .supplies) j 0 ≡ getD (m .supplies) j 0
-  unfolding bookIn
-  supply-is j l = sized-at (m .windows) (m .supplies) j l
+  pub windows-most : m .windows ≤ 24
+  windows-most = omega (arith, fit .windows-high, windows-in m caps)
 
-  pub cap-is : (i j : ℕ) → i < m .seats → j < m .windows → cell (bookIn m caps .caps) i j ≡ cell caps i j
-  unfolding bookIn
-  cap-is i j li lj =
-      ap (λ (r : List ℕ). getD r j 0) (sized-row (m .seats) (m .windows) caps i li) ∙ sized-at (m .windows) (getD caps i []) j lj
+  pub class-ranged : (i : ℕ) → i < m .seats → (1 ≤ getD (m .classes) i 0) × (getD (m .classes) i 0 ≤ 8)
+  class-ranged i l =
+      let inside : i < seats (bookIn m caps) = omega (arith, seats-in m caps) in
+      (omega (arith, class-in m caps i l, fit .class-low i inside), omega (arith, class-in m caps i l, fit .class-high i inside))
 
-  module _ (fit : Fit (bookIn m caps)) where
-    pub seats-most : m .seats ≤ 32
-    seats-most = omega (arith, fit .seats-high, seats-in m caps)
-
-    pub windows-most : m .windows ≤ 24
-    windows-most = omega (arith, fit .windows-high, windows-in m caps)
-
-    pub class-ranged : (i : ℕ) → i < m .seats → (1 ≤ getD (m .classes) i 0) × (getD (m .classes) i 0 ≤ 8)
-    class-ranged i l =
-        let inside : i < seats (bookIn m caps) = omega (arith, seats-in m caps) in
-        (omega (arith, class-is i l, fit .class-low i inside), omega (arith, class-is i l, fit .class-high i inside))
-
-    supply-ranged : (j : ℕ) → j < m .windows → getD (m .supplies) j 0 ≤ 4095
-    supply-ranged j l =
-        let inside : j < windows (bookIn m caps) = omega (arith, windows-in m caps) in
-        omega (arith, supply-is j l, fit .supply-high j inside)
+  supply-ranged : (j : ℕ) → j < m .windows → getD (m .supplies) j 0 ≤ 4095
+  supply-ranged j l =
+      let inside : j < windows (bookIn m caps) = omega (arith, windows-in m caps) in
+      omega (arith, supply-in m caps j l, fit .supply-high j inside)
 
 -- ---- the loop
 
@@ -85,9 +71,9 @@ module _ (m : Memory.Book) (k : ℕ) (ws₀ ps₀ ws ps bs : List ℕ) (l : m .s
   told caps = record {
     seats-are = seats-in m caps;
     windows-are = windows-in m caps;
-    caps-are = cap-is m caps;
-    supplies-are = supply-is m caps;
-    weights-are = λ i li. ap weightOf (class-is m caps i li) ∙ sym (weight-at i li .exact);
+    caps-are = cap-in m caps;
+    supplies-are = supply-in m caps;
+    weights-are = λ i li. ap weightOf (class-in m caps i li) ∙ sym (weight-at i li .exact);
     bases-are = λ i li. sym (none i);
     positions-are = λ i li. sym (position-at i li);
   }

@@ -1,16 +1,15 @@
 -- What the planner's steps show, from what is read and written. Assumes nothing.
 use mathlib.Core.Path.{_≡_, refl, sym, ap, _∙_, subst}
 use mathlib.Core.Bool.{true}
-use mathlib.Core.List.{List, []}
+use mathlib.Core.List.{List}
 use mathlib.Core.Option.{none, some}
 use Prim.Native.Nat.{ℕ, _≤_, _<_}
 use native.Mathlib.Omega.{arith}
-use lib.ListN.{length, getD}
+use lib.ListN.{length}
 use borrow.Author.Tests.{lt-ltb, le-ltb}
 use Rattle.fairness.specs.Exchange.{Settled}
 use Rattle.model.specs.Book.{Book, Grid, SheetOf, cell, seats, windows, instanceOf}
 use Rattle.model.proofs.Agree.{agree-settled}
-use Rattle.dayfile.specs.Bounds.{Fit}
 use Rattle.dayfile.specs.Layout.{bookOf}
 use Rattle.dayfile.specs.Table.{refuse, firstOf, line16, readLines, bufferLines, planLines, plannedLength}
 use Rattle.dayfile.specs.Memory.{sizedGrid, bookIn, dayBook, fileWith, front, Reads}
@@ -19,25 +18,13 @@ use Rattle.dayfile.specs.declared.Reading.{Reading}
 use Rattle.dayfile.specs.declared.Written as Written
 use Rattle.dayfile.proofs.Lines.{stop-in, on-after}
 use Rattle.dayfile.proofs.Answers.{defined-refusal, defined-answer}
-use Rattle.dayfile.proofs.Tables.{sized-at, sized-row}
+use Rattle.dayfile.proofs.Used.{cell-in}
 use Rattle.dayfile.proofs.Held.{seats-in, windows-in, book-shaped, sheet-shaped}
 use Rattle.dayfile.proofs.Lengths.{planned-length}
 use Rattle.dayfile.proofs.Readings.{read-day}
-use Rattle.instance.specs.declared.Terms.{Terms}
-use Rattle.instance.specs.Terms.{Told, Ranged, Small}
 use Rattle.planner.specs.Planning.{Planned, Plans}
 
 -- ---- what is planned, of a book in memory
-
--- caps in memory are no more than 4,095
-pub small-caps : (b : Book) (t : Terms) (caps : Grid) → Fit b → Told (instanceOf b) t caps → Ranged t → Small t caps
-unfolding instanceOf
-small-caps b t caps fit told ranged =
-    record {
-      ranged = ranged;
-      caps-most = λ i j li lj.
-          omega (arith, told .caps-are i j li lj, fit .cap-high i j (omega (arith, told .seats-are)) (omega (arith, told .windows-are)));
-    }
 
 module _ (m : Memory.Book) (caps g : Grid) where
   abbrev b : Book
@@ -51,9 +38,7 @@ module _ (m : Memory.Book) (caps g : Grid) where
   used-sheet = sheet-shaped m caps true g
 
   used-cell : (i j : ℕ) → i < seats b → j < windows b → cell g i j ≡ cell used i j
-  used-cell i j li lj =
-      sym (ap (λ (r : List ℕ). getD r j 0) (sized-row (m .seats) (m .windows) g i (omega (arith, seats-in m caps)))
-      ∙ sized-at (m .windows) (getD g i []) j (omega (arith, windows-in m caps)))
+  used-cell i j li lj = sym (cell-in m g i j (omega (arith, seats-in m caps)) (omega (arith, windows-in m caps)))
 
   -- the length does not hang on the cells
   pub planned-size : length (fileWith m caps true g) ≡ plannedLength (bookIn m caps)

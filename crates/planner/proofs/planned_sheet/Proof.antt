@@ -1,5 +1,5 @@
 -- `planner::planned_sheet` meets its contract: what the engine settles.
-use Rattle.planner.proofs.Steps.{small-caps}
+use Rattle.instance.proofs.Told.{small-told}
 use Rattle.planner.proofs.planned_sheet.Statement.{statement}
 use Rattle.planner.proofs.planned_sheet.Tie as tie
 
@@ -8,7 +8,7 @@ settled-requires c κs =
     let t = c .before in
     let b = t .before in
     let made = t .terms-of .ensures in
-    small-caps _ (t .terms-of .result) (b .args .t2) (b .pre) (made .1 (b .args .t2)) (made .0)
+    small-told _ (t .terms-of .result) (b .args .t2) (b .pre) (made .1 (b .args .t2)) (made .0)
 
 returns : tie.Need-returns
 returns c = let t = c .before .before in c .settled .ensures _ (t .terms-of .ensures .1 (t .before .args .t2))
