@@ -5,7 +5,7 @@ use mathlib.Core.List.{List, []}
 use mathlib.Core.Option.{Option, some}
 use Prim.Native.Nat.{ℕ, _+_, _-_, _*_, _/_, _<_}
 use lib.Dec.{eqb}
-use lib.ListN.{getD}
+use lib.ListN.{getD, take, drop}
 use Rattle.fairness.specs.Leximin.{table}
 use Rattle.model.specs.Lowest.{lowest, andThen, getOr}
 use Rattle.model.specs.Book.{Book, Grid}
@@ -95,3 +95,14 @@ sheetOf f = andThen (entryOf f 4) (λ e. some (gridIn f e))
 -- the sheet marked: the file's kind 4 body
 abbrev pub markedSheet : List ℕ → Grid
 markedSheet f = getOr (sheetOf f) []
+
+-- where the sheet's body starts, and its length in bytes; 0 where there is none
+abbrev pub sheetStart : List ℕ → ℕ
+sheetStart f = getOr (andThen (entryOf f 4) (λ e. some (start f e))) 0
+
+abbrev pub sheetSize : List ℕ → ℕ
+sheetSize f = getOr (andThen (entryOf f 4) (λ e. some (size f e))) 0
+
+-- the sheet body: that part of the file
+unfoldable pub sheetBody : List ℕ → List ℕ
+sheetBody f = take (sheetSize f) (drop (sheetStart f) f)

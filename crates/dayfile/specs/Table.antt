@@ -1,6 +1,7 @@
--- Paper 01, "Where each file is turned away": each line of the table gives the lowest offset at which its condition holds, or nothing.
+-- Paper 01, "Where each file is turned away", with the lines of paper 02: each line of the table gives the lowest offset at which its
+-- condition holds, or nothing.
 -- The comments are the table's own words: the condition, and the offset given.
-use mathlib.Core.Bool.{Bool, true, not, cond, _&&_}
+use mathlib.Core.Bool.{Bool, true, false, not, cond, _&&_}
 use mathlib.Core.List.{List, [], _∷_, _++_}
 use mathlib.Core.Option.{Option, none, some}
 use Prim.Native.Nat.{ℕ, _+_, _-_, _*_, _%_}
@@ -136,6 +137,26 @@ line15 f =
 unfoldable pub line16 : ℕ → ℕ → Option ℕ
 line16 room need = when (ltb room need) need
 
+-- ---- two files
+
+-- two lists are as long as each other, and pass a test place by place
+unfoldable pub alike : {A : Type 0} → (A → A → Bool) → List A → List A → Bool
+alike test [] [] = true
+alike test [] (y ∷ ys) = false
+alike test (x ∷ xs) [] = false
+alike test (x ∷ xs) (y ∷ ys) = test x y && alike test xs ys
+
+-- two books have the same numbers
+unfoldable pub sameBook : Book → Book → Bool
+sameBook b c =
+    alike eqb (b .classes) (c .classes)
+    && (alike eqb (b .supplies) (c .supplies)
+    && alike (alike eqb) (b .caps) (c .caps))
+
+-- 17: the class, supply or cap bodies of two files differ | 0
+unfoldable pub line17 : List ℕ → List ℕ → Option ℕ
+line17 f g = when (not (sameBook (bookOf f) (bookOf g))) 0
+
 -- ---- the refusal
 
 -- a line of the table: its number, and the offset where it holds
@@ -185,6 +206,9 @@ markerLines f = line 13 (line13 f) ∷ line 14 (line14 f) ∷ line 15 (line15 f)
 unfoldable pub bufferLines : ℕ → ℕ → List Line
 bufferLines room need = line 16 (line16 room need) ∷ []
 
+unfoldable pub pairLines : List ℕ → List ℕ → List Line
+pairLines f g = line 17 (line17 f g) ∷ []
+
 -- ---- the lines of each call, down the table
 
 -- the reader, on a file
@@ -202,6 +226,10 @@ movesRoom = 93
 -- the marker, on a file and a buffer of `room` bytes
 unfoldable pub markLines : List ℕ → ℕ → List Line
 markLines f room = sheetLines f ++ bufferLines room movesRoom
+
+-- the better of two, on two files: all of the first, then all of the second, and last what the two have together
+unfoldable pub betterLines : List ℕ → List ℕ → List Line
+betterLines f g = sheetLines f ++ (sheetLines g ++ pairLines f g)
 
 -- the length of the file that the planner writes: the book's with a sheet, and its caps stand here for any sheet
 unfoldable pub plannedLength : Book → ℕ
