@@ -13,6 +13,8 @@ pub mod Optional
 pub mod WrittenReads
 pub mod ReadWrites
 pub mod Accepted
+pub mod Bodies
+pub mod Pairs
 pub mod Lengths
 pub mod Held
 pub mod Used

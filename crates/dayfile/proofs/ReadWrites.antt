@@ -59,7 +59,7 @@ module _ (f : List ℕ) (s : Sound f) where
   unfolding ends
   ends-first = refl
 
-  ends-next : (e : ℕ) → ends f (suc e) ≡ start f e + size f e
+  pub ends-next : (e : ℕ) → ends f (suc e) ≡ start f e + size f e
   unfolding ends
   ends-next e =
       let body : ℕ → ℕ = λ k. start f k + size f k in

@@ -6,9 +6,10 @@ use Prim.Native.Nat.{ℕ, _+_, _<_}
 use native.Mathlib.Omega.{arith}
 use Rattle.fairness.specs.Sums.{sum}
 use Rattle.fairness.specs.Instance.{Instance, Sheet, Feasible, Wasteful, placed, total, height}
+use Rattle.fairness.specs.Leximin.{NoHigher, noHigher?, sort, table, levels, profile}
 use Rattle.fairness.specs.Exchange.{Move, Possible, Path, Exchange, improves, tiesWrongly, improvesAt, tiesAt, Settled}
 use Rattle.fairness.proofs.Sums.{sum-eq}
-use Rattle.fairness.proofs.Lists.{All-map}
+use Rattle.fairness.proofs.Lists.{All-map, table-same}
 use Rattle.fairness.proofs.Wanted as Wanted
 
 -- two instances, and a sheet of each, have the same used entries
@@ -52,6 +53,14 @@ module _ (I J : Instance) (S T : Sheet) (a : Alike I J S T) where
 
   alike-height : (i : ℕ) → i < I .seats → height I S i ≡ height J T i
   alike-height i li = ap₂ (λ (x y : ℕ). x + y) (a .bases i li) (alike-total i li)
+
+  pub alike-profile : profile I S ≡ profile J T
+  unfolding profile levels
+  alike-profile =
+      ap (sort NoHigher noHigher?)
+      (table-same (I .seats) (λ i. (height I S i, I .weight i)) (λ i. (height J T i, J .weight i))
+      (λ i li. ap₂ (λ (h w : ℕ). (h, w)) (alike-height i li) (a .weights i li))
+      ∙ ap (λ (n : ℕ). table n (λ i. (height J T i, J .weight i))) (a .seats))
 
   alike-possible : (m : Move) → Possible I S m → Possible J T m
   alike-possible m p = record {

@@ -1,5 +1,5 @@
 -- Lists whose elements all have a property, or are all distinct; sums and tables.
-use mathlib.Core.Path.{_≡_, refl, sym, ap, subst}
+use mathlib.Core.Path.{_≡_, refl, sym, ap, ap₂, subst}
 use mathlib.Core.List.{List, [], _∷_, _++_, map}
 use Prim.Native.Nat.{ℕ, zero, suc, _+_, _≤_, _<_, zero-le}
 use native.Mathlib.Decide.{ℕ-discrete}
@@ -95,3 +95,9 @@ pub table-length : {A : Type 0} (n : ℕ) (f : ℕ → A) → length (table n f)
 unfolding table
 table-length zero f = refl
 table-length (suc n) f = ap suc (table-length n (λ i. f (suc i)))
+
+pub table-same : {A : Type 0} (n : ℕ) (f g : ℕ → A) → ((i : ℕ) → i < n → f i ≡ g i) → table n f ≡ table n g
+unfolding table
+table-same zero f g e = refl
+table-same (suc n) f g e =
+    ap₂ (λ x xs. x ∷ xs) (e 0 (omega arith)) (table-same n (λ i. f (suc i)) (λ i. g (suc i)) (λ i l. e (suc i) (omega arith)))

@@ -1,10 +1,9 @@
 -- A sheet in memory that was seen to be lawful: no line of the marker's holds of its file. Assumes nothing.
-use mathlib.Core.Path.{_≡_, refl, sym, ap, subst, _∙_}
+use mathlib.Core.Path.{_≡_, refl, sym, ap, _∙_}
 use mathlib.Core.Bool.{Bool, true}
 use mathlib.Core.List.{List}
 use mathlib.Core.Option.{none, some}
 use Prim.Native.Nat.{ℕ, _+_, _≤_, _<_}
-use native.Mathlib.Decide.{ℕ-discrete}
 use native.Mathlib.Omega.{arith}
 use lib.ListN.{getD}
 use Rattle.fairness.specs.Sums.{sum}
@@ -24,10 +23,6 @@ use Rattle.sheet.proofs.Cells.{credit-cell}
 use Rattle.dayfile.specs.Memory.{cellsIn}
 use Rattle.dayfile.proofs.Used.{credit-in, cap-in, supply-in, range-in}
 use Rattle.lawful.proofs.Taken.{sheet-free}
-
--- one number more
-pub up-to : {P : ℕ → Type 0} {w : ℕ} → ((j : ℕ) → j < w → P j) → P w → (j : ℕ) → j < w + 1 → P j
-up-to {P} {w} h p j l = elim (ℕ-discrete j w) [ yes e ↦ subst P (sym e) p | no n ↦ h j (omega arith) ]
 
 -- from the arrays to the book and the sheet
 pub lawful-in : (m : Memory.Book) (caps sheet : Sheet) (given : List ℕ) →

@@ -1,8 +1,7 @@
 -- Which of two lists is higher shows at the first place where they differ. Assumes nothing.
 use mathlib.Core.Bool.{Bool, true, false}
-use mathlib.Core.Path.{_≡_, sym, subst, _∙_}
-use Prim.Native.Nat.{ℕ, zero, suc, _+_, _*_, _≤_, _<_}
-use native.Mathlib.Decide.{ℕ-discrete}
+use mathlib.Core.Path.{_≡_, sym, _∙_}
+use Prim.Native.Nat.{ℕ, zero, suc, _*_, _≤_, _<_}
 use native.Mathlib.Nat.{mul-le-mul}
 use native.Mathlib.Omega.{arith}
 use lib.Dec.{ltb}
@@ -26,13 +25,6 @@ Even i f g = (k : ℕ) → k < i → NoHigher (f k) (g k) × NoHigher (g k) (f k
 
 later : (i : ℕ) (f g : ℕ → Level) → Even (suc i) f g → Even i (λ k. f (suc k)) (λ k. g (suc k))
 later i f g e k l = e (suc k) (omega arith)
-
--- one place more
-pub even-next : (i : ℕ) (f g : ℕ → Level) → Even i f g → NoHigher (f i) (g i) → NoHigher (g i) (f i) → Even (i + 1) f g
-even-next i f g e p q k l = elim (ℕ-discrete k i) [
-  | yes z ↦ subst (λ (x : ℕ). NoHigher (f x) (g x) × NoHigher (g x) (f x)) (sym z) (p, q)
-  | no z ↦ e k (omega arith)
-]
 
 -- the second is above the first there
 pub higher-at : (n i : ℕ) (f g : ℕ → Level) → Even i f g → i < n → (NoHigher (g i) (f i) → ⊥) → Higher NoHigher (table n f) (table n g)

@@ -1,13 +1,19 @@
--- Lists whose elements all have a property, by index; and the elements that an array has in use, the first n of it, each made into
+-- Properties of all numbers below another, and of all elements of a list, by index; and the elements that an array has in use, the first n of it, each made into
 -- another by f, as the moves of a path are.
 use mathlib.Core.List.{List, [], _∷_, map}
-use mathlib.Core.Path.{_≡_, ap, _∙_}
-use Prim.Native.Nat.{ℕ, zero, suc, _≤_, _<_}
+use mathlib.Core.Path.{_≡_, sym, ap, subst, _∙_}
+use Prim.Native.Nat.{ℕ, zero, suc, _+_, _≤_, _<_}
+use native.Mathlib.Decide.{ℕ-discrete}
 use native.Mathlib.Omega.{arith}
 use lib.ListN.{length, getD, take, length-map, List·getD-map}
 use lib.Seq.{getD-take, length-take-le}
 use Rattle.fairness.specs.Exchange.{All}
 pub use Rattle.fairness.proofs.Lists.{All-map, All-end}
+
+-- ---- all numbers below one more
+
+pub up-to : {P : ℕ → Type 0} {w : ℕ} → ((j : ℕ) → j < w → P j) → P w → (j : ℕ) → j < w + 1 → P j
+up-to {P} {w} h p j l = elim (ℕ-discrete j w) [ yes e ↦ subst P (sym e) p | no n ↦ h j (omega arith) ]
 
 -- ---- all elements of a list; past its end stands d
 

@@ -1,6 +1,6 @@
 -- Tables: the list of f 0, f 1, .., n of them.
 use mathlib.Core.List.{List, [], _∷_, _++_}
-use mathlib.Core.Path.{_≡_, refl, sym, _∙_, ap, ap₂}
+use mathlib.Core.Path.{_≡_, refl, sym, _∙_, ap}
 use Prim.Native.Nat.{ℕ, zero, suc, _+_, _≤_, _<_}
 use native.Mathlib.Numerals.{add-one}
 use native.Mathlib.Omega.{arith}
@@ -8,7 +8,7 @@ use lib.ListN.{length, getD, List·getD-eq-default}
 use lib.Seq.{ext-getD}
 use Rattle.fairness.specs.Leximin.{table}
 use Rattle.fairness.proofs.Lists.{table-length}
-pub use Rattle.fairness.proofs.Lists.{table-length, table-All}
+pub use Rattle.fairness.proofs.Lists.{table-length, table-All, table-same}
 
 module _ {A : Type 0} where
   -- ---- the element at an index
@@ -24,12 +24,6 @@ module _ {A : Type 0} where
   table-out n f i d h = List·getD-eq-default (table n f) d (let e = table-length n f in omega arith)
 
   -- ---- when lists are tables
-
-  pub table-same : (n : ℕ) (f g : ℕ → A) → ((i : ℕ) → i < n → f i ≡ g i) → table n f ≡ table n g
-  unfolding table
-  table-same zero f g e = refl
-  table-same (suc n) f g e =
-      ap₂ (λ x xs. x ∷ xs) (e 0 (omega arith)) (table-same n (λ i. f (suc i)) (λ i. g (suc i)) (λ i l. e (suc i) (omega arith)))
 
   -- a list of n elements, each that of f
   pub table-is : (n : ℕ) (f : ℕ → A) (xs : List A) (d : A) → length xs ≡ n → ((i : ℕ) → i < n → getD xs i d ≡ f i) → xs ≡ table n f

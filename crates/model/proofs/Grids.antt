@@ -1,12 +1,13 @@
 -- Grids and functions: every sheet of functions is that of a grid, on the cells that are used. Assumes nothing.
-use mathlib.Core.Path.{_≡_, sym, ap, _∙_}
+use mathlib.Core.Path.{_≡_, refl, sym, ap, _∙_}
 use mathlib.Core.List.{List, []}
-use Prim.Native.Nat.{ℕ, _+_, _<_}
+use Prim.Native.Nat.{ℕ, _<_}
 use native.Mathlib.Nat.{le-trans, le-of-eq}
 use lib.ListN.{length, getD}
-use Rattle.fairness.specs.Instance.{Instance, Sheet, Feasible, placed, total, height}
-use Rattle.fairness.specs.Leximin.{table, sort, NoHigher, noHigher?, levels, profile}
+use Rattle.fairness.specs.Instance.{Instance, Sheet, Feasible, placed, total}
+use Rattle.fairness.specs.Leximin.{table, profile}
 use Rattle.fairness.proofs.Sums.{sum-eq}
+use Rattle.fairness.proofs.Alike.{Alike, alike-profile}
 use Rattle.lists.proofs.Tables.{table-length}
 pub use Rattle.lists.proofs.Tables.{table-at, table-same}
 use Rattle.model.specs.Book.{Grid, cell, Shaped}
@@ -47,9 +48,17 @@ module _ (I : Instance) where
         fits = λ j lj. le-trans (le-of-eq (sym (agree-placed S T e j lj))) (h .fits j lj);
       }
 
+  pub agree-alike : (S T : Sheet) → Agree S T → Alike I I S T
+  agree-alike S T e = record {
+    seats = refl;
+    windows = refl;
+    caps = λ i j li lj. refl;
+    supplies = λ j lj. refl;
+    weights = λ i li. refl;
+    bases = λ i li. refl;
+    positions = λ i li. refl;
+    cells = e;
+  }
+
   pub agree-profile : (S T : Sheet) → Agree S T → profile I S ≡ profile I T
-  unfolding profile levels
-  agree-profile S T e =
-      ap (sort NoHigher noHigher?)
-      (table-same (I .seats) (λ i. (height I S i, I .weight i)) (λ i. (height I T i, I .weight i))
-      (λ i li. ap (λ (x : ℕ). (I .base i + x, I .weight i)) (agree-total S T e i li)))
+  agree-profile S T e = alike-profile I I S T (agree-alike S T e)

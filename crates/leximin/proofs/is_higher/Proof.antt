@@ -4,8 +4,9 @@ use mathlib.Core.Path.{refl, sym}
 use mathlib.Core.Bool.{true≢false}
 use Prim.Native.Nat.{_-_}
 use native.Mathlib.Omega.{arith}
+use Rattle.lists.proofs.Alls.{up-to}
 use Rattle.leximin.specs.Levels.{levelAt, listIn}
-use Rattle.leximin.proofs.Orders.{Even, even-next, below, not-below, higher-at, lower-at, even-not-higher}
+use Rattle.leximin.proofs.Orders.{Even, below, not-below, higher-at, lower-at, even-not-higher}
 use Rattle.leximin.proofs.is_higher.Statement.{statement}
 use Rattle.leximin.proofs.is_higher.Tie as tie
 
@@ -27,8 +28,7 @@ is-below-requires c κs =
 returns : tie.Need-returns Inv-loop μ-loop
 unfolding listIn
 returns c =
-    let test = c .before .before .before .before in
-    (
+    let test = c .before .before .before .before in (
       λ e. higher-at _ _ _ _ (test .before .loop .inv) (test .loop-test .taken) (below _ _ (c .before .is-below .ensures) (c .if1 .taken)),
       λ h. refl,
     )
@@ -42,8 +42,7 @@ is-below-requires-2 c κs =
 returns-2 : tie.Need-returns-2 Inv-loop μ-loop
 unfolding listIn
 returns-2 c =
-    let test = c .before .before .before .before .before .before in
-    (
+    let test = c .before .before .before .before .before .before in (
       λ e. absurd (true≢false (sym e)),
       λ h. absurd (lower-at _ _ _ _ (test .before .loop .inv) (test .loop-test .taken)
           (below _ _ (c .before .is-below2 .ensures) (c .if2 .taken)) h),
@@ -53,8 +52,8 @@ loop-again : tie.Need-loop-again Inv-loop μ-loop
 loop-again c =
     let test = c .before .before .before .before .before .before in
     let first = c .before .before in
-    even-next _ _ _ (test .before .loop .inv) (not-below _ _ (c .before .is-below2 .ensures) (c .if2 .left))
-    (not-below _ _ (first .before .is-below .ensures) (first .if1 .left))
+    up-to (test .before .loop .inv)
+    (not-below _ _ (c .before .is-below2 .ensures) (c .if2 .left), not-below _ _ (first .before .is-below .ensures) (first .if1 .left))
 
 returns-3 : tie.Need-returns-3 Inv-loop μ-loop
 unfolding listIn

@@ -6,7 +6,7 @@ use mathlib.Core.Path.{_≡_}
 use Prim.Native.Nat.{ℕ, _-_, _≤_, _<_, zero-le}
 use native.Mathlib.Omega.{arith}
 use lib.ListN.{getD}
-use Rattle.lawful.proofs.Lawfulness.{up-to}
+use Rattle.lists.proofs.Alls.{up-to}
 use Rattle.lawful.proofs.memory.row_within.Statement.{statement}
 use Rattle.lawful.proofs.memory.row_within.Tie as tie
 

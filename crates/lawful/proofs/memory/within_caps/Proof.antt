@@ -6,7 +6,7 @@ use mathlib.Core.Path.{sym}
 use Prim.Native.Nat.{ℕ, _-_, _≤_, _<_, zero-le}
 use native.Mathlib.Omega.{arith}
 use Rattle.sheet.specs.Sheets.{credit}
-use Rattle.lawful.proofs.Lawfulness.{up-to}
+use Rattle.lists.proofs.Alls.{up-to}
 use Rattle.lawful.proofs.memory.within_caps.Statement.{statement}
 use Rattle.lawful.proofs.memory.within_caps.Tie as tie
 

@@ -1,0 +1,68 @@
+-- Two books in memory are the same exactly where their used entries are. Assumes nothing.
+use mathlib.Core.Path.{_≡_, refl, sym, ap, ap₂, _∙_}
+use mathlib.Core.Bool.{Bool, true, false, true≢false}
+use mathlib.Core.Logic.{_↔_}
+use mathlib.Core.List.{List, []}
+use Prim.Native.Nat.{ℕ, _<_}
+use native.Mathlib.Omega.{arith}
+use lib.ListN.{length, getD}
+use Rattle.lists.proofs.Tables.{table-same}
+use Rattle.model.specs.Book.{Book, Grid, cell}
+use Rattle.model.proofs.Tests.{not-true}
+use Rattle.dayfile.specs.Table.{sameBook}
+use Rattle.dayfile.specs.Memory.{sized, sizedGrid, bookIn}
+use Rattle.dayfile.specs.declared.Book as Memory
+use Rattle.pair.specs.Same.{SameUpTo, SameCells, SameLists}
+use Rattle.dayfile.proofs.Pairs.{same-book, same-itself}
+use Rattle.dayfile.proofs.Held.{seats-in, windows-in}
+use Rattle.dayfile.proofs.Used.{class-in, supply-in, cap-in}
+
+-- the same numbers in both
+abbrev SameNumbers : Memory.Book → Grid → Memory.Book → Grid → Type 0
+SameNumbers a caps b caps′ = SameLists a b × SameCells (a .seats) (a .windows) caps caps′
+
+module _ (a : Memory.Book) (caps : Grid) (b : Memory.Book) (caps′ : Grid) where
+  sized-same : (n m : ℕ) (xs ys : List ℕ) → n ≡ m → SameUpTo n xs ys → sized n xs ≡ sized m ys
+  unfolding sized
+  sized-same n m xs ys e h = table-same n (λ i. getD xs i 0) (λ i. getD ys i 0) h ∙ ap (λ (k : ℕ). sized k ys) e
+
+  grid-same : SameNumbers a caps b caps′ → sizedGrid (a .seats) (a .windows) caps ≡ sizedGrid (b .seats) (b .windows) caps′
+  unfolding sizedGrid
+  grid-same h =
+      table-same (a .seats) (λ i. sized (a .windows) (getD caps i [])) (λ i. sized (b .windows) (getD caps′ i []))
+      (λ i l. sized-same (a .windows) (b .windows) (getD caps i []) (getD caps′ i []) (h .0 .windows) (h .1 i l))
+      ∙ ap (λ (k : ℕ). sizedGrid k (b .windows) caps′) (h .0 .seats)
+
+  pub one-book : SameNumbers a caps b caps′ → bookIn a caps ≡ bookIn b caps′
+  unfolding bookIn
+  one-book h =
+      ap₂ (λ (x y : List ℕ). record { classes = x; supplies = y; caps = sizedGrid (a .seats) (a .windows) caps })
+      (sized-same (a .seats) (b .seats) (a .classes) (b .classes) (h .0 .seats) (h .0 .classes))
+      (sized-same (a .windows) (b .windows) (a .supplies) (b .supplies) (h .0 .windows) (h .0 .supplies))
+      ∙ ap (λ (z : Grid). record { classes = sized (b .seats) (b .classes); supplies = sized (b .windows) (b .supplies); caps = z })
+      (grid-same h)
+
+  pub same-numbers : bookIn a caps ≡ bookIn b caps′ → SameNumbers a caps b caps′
+  same-numbers e = (
+    record {
+      seats = n;
+      windows = m;
+      classes = λ i l. sym (class-in a caps i l) ∙ ap (λ (c : Book). getD (c .classes) i 0) e ∙ class-in b caps′ i (omega (arith, n));
+      supplies = λ j l. sym (supply-in a caps j l) ∙ ap (λ (c : Book). getD (c .supplies) j 0) e ∙ supply-in b caps′ j (omega (arith, m));
+    },
+    λ i li j lj.
+        sym (cap-in a caps i j li lj) ∙ ap (λ (c : Book). cell (c .caps) i j) e ∙ cap-in b caps′ i j (omega (arith, n)) (omega (arith, m)),
+  )
+    where
+      n : a .seats ≡ b .seats
+      n = sym (seats-in a caps) ∙ ap (λ (c : Book). length (c .classes)) e ∙ seats-in b caps′
+
+      m : a .windows ≡ b .windows
+      m = sym (windows-in a caps) ∙ ap (λ (c : Book). length (c .supplies)) e ∙ windows-in b caps′
+
+  -- the test of the table
+  pub seen : (r : Bool) → ((r ≡ true) ↔ SameNumbers a caps b caps′) → r ≡ sameBook (bookIn a caps) (bookIn b caps′)
+  seen true h = sym (ap (sameBook (bookIn a caps)) (sym (one-book (h .0 refl))) ∙ same-itself (bookIn a caps))
+  seen false h =
+      sym (not-true (sameBook (bookIn a caps) (bookIn b caps′))
+      (λ e. true≢false (sym (h .1 (same-numbers (same-book (bookIn a caps) (bookIn b caps′) e))))))
