@@ -1,61 +1,28 @@
 -- From what was read of a file and its checks to the marker's contract. Assumes nothing.
-use mathlib.Core.Path.{_≡_, refl, sym, ap, _∙_}
-use mathlib.Core.Bool.{Bool, true, false}
-use mathlib.Core.List.{List, []}
-use mathlib.Core.Option.{Option, none, some}
+use mathlib.Core.Path.{_≡_, refl, ap, _∙_}
+use mathlib.Core.List.{List}
+use mathlib.Core.Option.{none, some}
 use Prim.Native.Nat.{ℕ, _≤_}
-use native.Mathlib.Omega.{arith}
 use lib.ListN.{length}
 use lib.Dec.{ltb}
 use borrow.Author.Tests.{ltb-false}
-use Rattle.model.specs.Lowest.{getOr}
-use Rattle.model.specs.Book.{Grid, Lawful}
+use Rattle.model.specs.Book.{Grid}
 use Rattle.model.specs.Marks.{markOf, resultOf}
-use Rattle.dayfile.specs.Bounds.{Fit}
 use Rattle.dayfile.specs.Layout.{bookOf}
-use Rattle.dayfile.specs.Table.{refuse, firstOf, readLines, markerLines, sheetLines, bufferLines, markLines, movesRoom, line16}
-use Rattle.dayfile.specs.Memory.{bookIn, cellsIn, sheetIn, dayBook, Reads}
+use Rattle.dayfile.specs.Table.{refuse, firstOf, sheetLines, bufferLines, markLines, movesRoom, line16}
+use Rattle.dayfile.specs.Memory.{bookIn, cellsIn, Reads}
 use Rattle.dayfile.specs.declared.Book as Memory
 use Rattle.dayfile.specs.declared.Reading.{Reading}
 use Rattle.dayfile.proofs.Answers.{defined-refusal, defined-answer}
 use Rattle.dayfile.proofs.Lines.{none-holds, none-parts}
 use Rattle.dayfile.proofs.Tests.{when-none}
-use Rattle.dayfile.proofs.Sound.{sound}
-use Rattle.dayfile.proofs.Accepted.{fits}
 use Rattle.sheet.specs.Sheets.{gridOf}
 use Rattle.answers.specs.declared.Marking.{Marking}
 use Rattle.answers.specs.declared.Marking.the-variants.{Refused}
 use Rattle.marker.specs.Marking as marking
 use Rattle.marker.specs.Marking.{Marks}
 use Rattle.marks.specs.Steps.{MarkedAs, Markable}
-use Rattle.lawful.proofs.Accepted.{accepted-lawful, has-sheet-of}
-use Rattle.dayfile.proofs.Readings.{read-day}
-
--- the sheet that is in memory, where there is one
-cells-of : (m : Memory.Book) (there : Bool) (sheet s : Grid) → sheetIn m there sheet ≡ some s → cellsIn m sheet ≡ s
-cells-of m true sheet s e = ap (λ (o : Option Grid). getOr o []) e
-cells-of m false sheet s e = absurd (let z : _≡_ {A = ℕ} 0 1 = cc in omega arith)
-
--- what was read of a file with a lawful sheet: its book and its sheet
-module _ (f : List ℕ) (r : Reading) (reads : Reads f r) (passed : firstOf (sheetLines f) ≡ none) where
-  sheet-parts : (firstOf (readLines f) ≡ none) × (firstOf (markerLines f) ≡ none)
-  unfolding sheetLines
-  sheet-parts = none-parts (readLines f) (markerLines f) passed
-
-  pub book-read : dayBook (r .day) ≡ bookOf f
-  book-read = read-day f r reads (sheet-parts .0) .0
-
-  pub fit-read : Fit (bookOf f)
-  fit-read = fits f (sound f (sheet-parts .0))
-
-  pub sheet-read : cellsIn (r .day .book) (gridOf (r .day .sheet)) ≡ marking.markedSheet f
-  sheet-read =
-      let s = has-sheet-of f (none-holds (markerLines f) (sheet-parts .1)) in
-      cells-of (r .day .book) (r .day .«has_sheet») (gridOf (r .day .sheet)) (s .0) (read-day f r reads (sheet-parts .0) .1 ∙ s .1)
-      ∙ ap (λ (o : Option Grid). getOr o []) (sym (s .1))
-
-  pub lawful-read : Lawful (bookOf f) (marking.markedSheet f)
-  lawful-read = accepted-lawful f (none-holds (markerLines f) (sheet-parts .1))
+use Rattle.lawful.proofs.Readings.{book-read, fit-read, sheet-read, lawful-read}
 
 -- a refusal
 pub refused-marks : (f before : List ℕ) (n p : ℕ) → firstOf (markLines f (length before)) ≡ some (refuse n p) →
