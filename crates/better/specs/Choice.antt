@@ -35,10 +35,16 @@ told Second = answer second
 abbrev pub fileRefused : List ℕ → List ℕ → ℕ
 fileRefused f g = cond (isSome (firstOf (sheetLines f))) 1 (cond (isSome (firstOf (sheetLines g))) 2 0)
 
+-- a refusal says whose it is
+abbrev pub SaysWhose : (f g : List ℕ) → Choice → Type 0
+SaysWhose f g (Refused file number at) = file ≡ fileRefused f g
+SaysWhose f g First = Unit {0}
+SaysWhose f g Second = Unit {0}
+
 -- the contract of the choice: down the lines of both files, the one that is chosen
 pub record Chooses (f g : List ℕ) (r : Choice) : Type 0 where
   pub defined : Defined (betterLines f g) [] [] (told r) (Chosen f g)
-  pub file-refused : (file number at : ℕ) → r ≡ Refused file number at → file ≡ fileRefused f g
+  pub whose : SaysWhose f g r
 
 -- what is handed back: the sheet body of the file that is chosen, and nothing of either at a refusal
 abbrev pub handedBack : Choice → (f g : List ℕ) → List ℕ

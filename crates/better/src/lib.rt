@@ -1,21 +1,26 @@
 // The better of two hand-ins: of two files with a lawful sheet of one book, the sheet body of the one whose list is higher.
 ghost use mathlib.Core.Path.{_≡_};
 ghost use mathlib.Core.Option.{none};
-ghost use Rattle.dayfile.specs.Layout.{sheetStart, sheetSize, sheetBody};
-ghost use Rattle.dayfile.specs.Table.{firstOf, sheetLines};
+ghost use Rattle.model.specs.Fair.{profileOf};
+ghost use Rattle.sheet.specs.Sheets.{gridOf};
+ghost use Rattle.dayfile.specs.Bounds.{Fit};
+ghost use Rattle.dayfile.specs.Layout.{sheetBody};
+ghost use Rattle.dayfile.specs.Table.{firstOf, sheetLines, sameBook};
+ghost use Rattle.dayfile.specs.Memory.{cellsIn, dayBook};
 ghost use Rattle.better.specs.Choice.{Chooses, HandsBack};
-ghost use Rattle.better.specs.Numbers.{betterNumbers};
+ghost use Rattle.better.specs.Numbers.{spanOf, betterNumbers};
+ghost use Rattle.better.specs.Steps.{Compared};
 use dayfile::Check;
+use dayfile::Day;
 use dayfile::Found;
-use days::compare;
 use fields::entry_of;
 use fields::size;
 use fields::start;
 use lawful::check_lawful;
+use pair::same_book;
+use pair::second_is_higher;
 
-mod days;
-
-// A refusal, with the file that it is of (0 where it is of both), or which of the two is chosen.
+// A refusal and the file that it is of, 0 where it is of both; or which of the two is chosen.
 pub enum Choice {
     Refused { file: u8, number: u8, at: usize },
     First,
@@ -28,7 +33,7 @@ pub struct Span {
     pub length: usize,
 }
 
-// A refusal and the file that it is of, or the file that is chosen, 1 or 2, and where its sheet body lies.
+// The same for C: a refusal and its file, or the file that is chosen, 1 or 2, and where its sheet body lies.
 #[repr(C)]
 pub struct BetterResult {
     pub refusal: u32,
@@ -36,6 +41,31 @@ pub struct BetterResult {
     pub file: u32,
     pub start: usize,
     pub length: usize,
+}
+
+// Line 17, and then the list that is higher, of two days with lawful sheets.
+fn compare(first: Day, second: Day) -> Choice
+    requires { ⌜ Fit (dayBook first) ⌝ }
+    ensures { λ r. ⌜ Compared (sameBook (dayBook first) (dayBook second))
+        (profileOf (dayBook first) (cellsIn (first .book) (gridOf (first .sheet))))
+        (profileOf (dayBook second) (cellsIn (second .book) (gridOf (second .sheet)))) r ⌝ }
+{
+    let book = first.book;
+    let caps = first.caps.to_grid();
+    let second_caps = second.caps.to_grid();
+    if !same_book(book, &caps, second.book, &second_caps) {
+        return Choice::Refused {
+            file: 0,
+            number: 17,
+            at: 0,
+        };
+    }
+    let sheet = first.sheet.to_grid();
+    let second_sheet = second.sheet.to_grid();
+    if second_is_higher(book, &sheet, &second_sheet) {
+        return Choice::Second;
+    }
+    Choice::First
 }
 
 // Which of two files has the higher list; on equal lists the first.
@@ -63,7 +93,7 @@ pub fn choose(first: &[u8], second: &[u8]) -> Choice
 
 // Where the sheet body of a file lies.
 pub fn sheet_span(file: &[u8]) -> Span
-    ensures { λ r. ⌜ (r .start ≡ sheetStart (now (file .entry))) × (r .length ≡ sheetSize (now (file .entry))) ⌝ }
+    ensures { λ r. ⌜ r ≡ spanOf (now (file .entry)) ⌝ }
 {
     if let Found::At(e) = entry_of(file, 4) {
         return Span {
@@ -103,8 +133,33 @@ pub fn better<'a>(first: &'a [u8], second: &'a [u8]) -> &'a [u8]
     }
 }
 
-// A body of a file, in numbers.
-fn body_numbers(file: u32, span: Span) -> BetterResult
-
 impl BetterResult {
+    // A choice in numbers, where the two sheet bodies lie at these places.
+    pub fn of(choice: Choice, first: Span, second: Span) -> BetterResult
+        ensures { λ r. ⌜ r ≡ betterNumbers first second choice ⌝ }
+    {
+        match choice {
+            Choice::Refused { file, number, at } => BetterResult {
+                refusal: number as u32,
+                offset: at,
+                file: file as u32,
+                start: 0,
+                length: 0,
+            },
+            Choice::First => BetterResult {
+                refusal: 0,
+                offset: 0,
+                file: 1,
+                start: first.start,
+                length: first.length,
+            },
+            Choice::Second => BetterResult {
+                refusal: 0,
+                offset: 0,
+                file: 2,
+                start: second.start,
+                length: second.length,
+            },
+        }
+    }
 }

@@ -1,0 +1,20 @@
+-- `better::BetterResult::of` meets its contract: the numbers of each case.
+use mathlib.Core.Path.{ap, sym}
+use borrow.Author.Needs.{needs}
+use Rattle.better.specs.Numbers.{betterNumbers}
+use Rattle.better.proofs.BetterResult.of.Statement.{statement}
+use Rattle.better.proofs.BetterResult.of.Tie as tie
+
+returns : tie.Need-returns
+returns c = ap (betterNumbers _ _) (sym (c .before .choice .given .1))
+
+returns-2 : tie.Need-returns-2
+returns-2 c = ap (betterNumbers _ _) (sym (c .enum-told .given .1))
+
+returns-3 : tie.Need-returns-3
+returns-3 c = ap (betterNumbers _ _) (sym (c .enum-told2 .given .1))
+
+pub of-spec : {M : Type 1} → statement M
+of-spec =
+    tie.close (tie.spec (λ c. search needs) (λ c. search needs) (λ c. search needs) (λ c. search needs) (λ c. search needs) returns
+    returns-2 returns-3)
