@@ -25,10 +25,10 @@ use Rattle.sheet.specs.Sheets.{gridOf}
 use Rattle.lawful.proofs.Readings.{book-read, fit-read, sheet-read}
 use Rattle.better.specs.declared.Choice.{Choice}
 use Rattle.better.specs.declared.Choice.the-variants.{Refused, First, Second}
-use Rattle.better.specs.Choice.{Side, first, second, listOf, told, Chooses, handedBack, HandsBack}
+use Rattle.better.specs.Choice.{Side, first, second, listOf, sideOf, Chooses, handedBack, HandsBack}
 use Rattle.better.specs.Steps.{Compared}
 
-first-not-second : first ≡ second → ⊥
+pub first-not-second : first ≡ second → ⊥
 first-not-second e = let z : _≡_ {A = ℕ} 0 1 = cc in omega arith
 
 -- ---- two days in memory
@@ -126,7 +126,7 @@ module _ (f g : List ℕ) where
 
 module _ (f g : List ℕ) where
   -- one of the two was chosen, so no line of either file holds
-  pub lawful-both : (side : Side) (c : Choice) → Chooses f g c → told c ≡ answer side →
+  pub lawful-both : (side : Side) (c : Choice) → Chooses f g c → sideOf c ≡ answer side →
       (firstOf (sheetLines f) ≡ none) × (firstOf (sheetLines g) ≡ none)
   unfolding betterLines
   lawful-both side c h e =

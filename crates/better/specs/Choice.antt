@@ -17,19 +17,28 @@ use Rattle.better.specs.declared.Choice.the-variants.{Refused, First, Se
 abbrev pub listOf : List ℕ → List Level
 listOf f = profileOf (bookOf f) (markedSheet f)
 
+-- the one or the other of two hand-ins
 pub data Side : Type 0 where
   first : Side
   second : Side
+
+abbrev pub other : Side → Side
+other first = second
+other second = first
+
+abbrev pub fileOn : Side → (f g : List ℕ) → List ℕ
+fileOn first f g = f
+fileOn second f g = g
 
 -- the second exactly where its list is higher, so on equal lists the first
 abbrev pub Chosen : (f g : List ℕ) → Side → Type 0
 Chosen f g side = (side ≡ second) ↔ Higher NoHigher (listOf f) (listOf g)
 
 -- what the call answers: a refusal, or one of the two
-abbrev pub told : Choice → Outcome Side
-told (Refused file number at) = turnedAway (refuse number at)
-told First = answer first
-told Second = answer second
+abbrev pub sideOf : Choice → Outcome Side
+sideOf (Refused file number at) = turnedAway (refuse number at)
+sideOf First = answer first
+sideOf Second = answer second
 
 -- whose refusal it is: 1 where a line of the first file's holds, 2 where one of the second's does, and 0 for line 17
 abbrev pub fileRefused : List ℕ → List ℕ → ℕ
@@ -43,7 +52,7 @@ SaysWhose f g Second = Unit {0}
 
 -- the contract of the choice: down the lines of both files, the one that is chosen
 pub record Chooses (f g : List ℕ) (r : Choice) : Type 0 where
-  pub defined : Defined (betterLines f g) [] [] (told r) (Chosen f g)
+  pub defined : Defined (betterLines f g) [] [] (sideOf r) (Chosen f g)
   pub whose : SaysWhose f g r
 
 -- what is handed back: the sheet body of the file that is chosen, and nothing of either at a refusal

@@ -6,6 +6,9 @@ use Rattle.dayfile.specs.Memory.{Reads, WritesDay}
 use Rattle.marker.specs.Marking.{Marks}
 use Rattle.planner.specs.Planning.{Plans}
 use Rattle.listing.specs.Calls.{Lists}
+use Rattle.better.specs.declared.BetterResult.{BetterResult}
+use Rattle.better.specs.Choice.{Chooses}
+use Rattle.better.specs.Numbers.{spanOf, betterNumbers}
 use Rattle.answers.specs.declared.CreditsBook.{CreditsBook}
 use Rattle.answers.specs.declared.ReadResult.{ReadResult}
 use Rattle.answers.specs.declared.MarkResult.{MarkResult}
@@ -37,3 +40,7 @@ PlansAs file before after r = InNumbers writeNumbers (Plans file before after) r
 -- credits_listing
 abbrev pub ListsAs : (file before after : List ℕ) → WriteResult → Type 0
 ListsAs file before after r = InNumbers writeNumbers (Lists file before after) r
+
+-- credits_better
+abbrev pub BettersAs : (f g : List ℕ) → BetterResult → Type 0
+BettersAs f g r = InNumbers (betterNumbers (spanOf f) (spanOf g)) (Chooses f g) r

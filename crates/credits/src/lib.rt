@@ -1,10 +1,13 @@
 // The library for C, Rust and Python: every public call, exported, in the order of include/credits.h. What crosses is numbers, slices and
 // structs of numbers. The contracts are in specs/Calls.antt.
-ghost use Rattle.credits.specs.Calls.{ReadsAs, WritesAs, MarksAs, PlansAs, ListsAs};
+ghost use Rattle.credits.specs.Calls.{ReadsAs, WritesAs, MarksAs, PlansAs, ListsAs, BettersAs};
 use answers::CreditsBook;
 use answers::MarkResult;
 use answers::ReadResult;
 use answers::WriteResult;
+use better::BetterResult;
+use better::choose;
+use better::sheet_span;
 
 // The book and the sheet of a file.
 #[no_mangle]
@@ -44,4 +47,16 @@ pub extern "C" fn credits_listing(file: &[u8], out: &mut [u8]) -> WriteResult
     ensures { λ r. ⌜ ListsAs (now (file .entry)) (now (out .entry)) (now (out .exit)) r ⌝ }
 {
     WriteResult::of(listing::listing(file, out))
+}
+
+// Which of two files has the higher list, and where its sheet body lies.
+#[no_mangle]
+pub extern "C" fn credits_better(first: &[u8], second: &[u8]) -> BetterResult
+    ensures { λ r. ⌜ BettersAs (now (first .entry)) (now (second .entry)) r ⌝ }
+{
+    BetterResult::of(
+        choose(first, second),
+        sheet_span(first),
+        sheet_span(second),
+    )
 }

@@ -10,6 +10,7 @@ use Rattle.dayfile.specs.Memory.{dayBook, daySheet, reading, Reads}
 use Rattle.dayfile.proofs.Lines.{none-first-of}
 use Rattle.dayfile.proofs.Theorems.{holds-accepted}
 use Rattle.demands.specs.Demands.{Demand1}
+use Rattle.demands.proofs.Better.{handed-back}
 
 read : (file : List ℕ) (r : Reading) → Reads file r →
     Defined (readLines file) [] [] (reading r) (λ d. (dayBook d ≡ bookOf file) × (daySheet d ≡ sheetOf file))
@@ -30,4 +31,6 @@ first =
       marker = λ file before after r h. h;
       planner = λ file before after r h. h;
       listing = λ file before after r h. h;
+      better = λ f g r h. h .defined;
+      handed-back = handed-back;
     }

@@ -1,9 +1,10 @@
--- The three demands hold. Their statements are in specs/Demands.antt; nothing is assumed.
+-- The three demands hold, and what is said of the better of two. The statements are in specs/Demands.antt; nothing is assumed.
 use Rattle.model.proofs.Theorems.{highest-list-exists, highest-lists-equal}
-use Rattle.demands.specs.Demands.{Demand1, Demand2, Demand3}
+use Rattle.demands.specs.Demands.{Demand1, Demand2, Demand3, BetterOfTwo}
 use Rattle.demands.proofs.Outcomes.{first}
 use Rattle.demands.proofs.Documents.{lawful-frugal, wasteful-not-non-wasteful}
 use Rattle.demands.proofs.Files.{reads-back, same-bytes}
+use Rattle.demands.proofs.Better.{not-lower, passes, inside}
 use Rattle.demands.proofs.Fairness.{passes-exactly, passing-highest, fails, planned, planned-passes}
 
 -- each call gives a defined outcome or a numbered refusal, and a refusal changes no byte
@@ -32,3 +33,7 @@ demand-3 =
       planned = planned;
       planned-passes = planned-passes;
     }
+
+-- of two hand-ins the one that is handed back has the higher list, and passes where either does
+pub better-of-two : BetterOfTwo
+better-of-two = record { not-lower = not-lower; passes = passes; inside = inside }

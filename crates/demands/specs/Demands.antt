@@ -1,10 +1,11 @@
 -- The three demands, each as one statement over the contracts of the public calls: the reader's `Reads`, the writer's `WritesDay`, the
--- marker's `Marks`, the planner's `Plans`, the listing's `Lists`. Proved in proofs/Theorems.antt.
+-- marker's `Marks`, the planner's `Plans`, the listing's `Lists`, and of the better of two `Chooses` and `HandsBack`. Behind them stands
+-- what the better of two means to its reader. Proved in proofs/Theorems.antt.
 use mathlib.Core.Path.{_≡_}
 use mathlib.Core.List.{List, []}
 use mathlib.Core.Logic.{_↔_, _⊎_}
 use mathlib.Core.Option.{some}
-use Prim.Native.Nat.{ℕ, _≤_, _<_}
+use Prim.Native.Nat.{ℕ, _+_, _≤_, _<_}
 use lib.ListN.{length, take}
 use Rattle.fairness.specs.Sums.{sum}
 use Rattle.fairness.specs.Instance.{Instance, Sheet, Wasteful, Feasible}
@@ -17,9 +18,9 @@ use Rattle.dayfile.specs.declared.Day.{Day}
 use Rattle.dayfile.specs.declared.Reading.{Reading}
 use Rattle.dayfile.specs.declared.Written.{Written}
 use Rattle.dayfile.specs.declared.Written.the-variants.{Whole}
-use Rattle.dayfile.specs.Layout.{bookOf, sheetOf, Bytes}
-use Rattle.dayfile.specs.Table.{readLines, writeLines, markLines, planLines, bufferLines, plannedLength, movesRoom}
-use Rattle.dayfile.specs.Outcome.{answer, readFile, NoneHolds, Defined}
+use Rattle.dayfile.specs.Layout.{bookOf, sheetOf, sheetStart, sheetSize, sheetBody, Bytes}
+use Rattle.dayfile.specs.Table.{Refusal, readLines, writeLines, markLines, planLines, betterLines, bufferLines, plannedLength, movesRoom}
+use Rattle.dayfile.specs.Outcome.{answer, readFile, NoneHolds, FirstHolds, Defined}
 use Rattle.dayfile.specs.Memory.{dayBook, daySheet, fileIn, front, written, reading, Reads, WritesDay}
 use Rattle.listing.specs.Listing.{listingMax}
 use Rattle.listing.specs.Calls.{Listed, Lists}
@@ -27,6 +28,8 @@ use Rattle.answers.specs.declared.Marking.{Marking}
 use Rattle.answers.specs.Answers.{told}
 use Rattle.marker.specs.Marking.{markedSheet, BufferAfter, Marks, movesIn, Passing}
 use Rattle.planner.specs.Planning.{Planned, Plans}
+use Rattle.better.specs.declared.Choice.{Choice}
+use Rattle.better.specs.Choice.{Side, other, fileOn, listOf, Chosen, sideOf, Chooses, HandsBack}
 
 -- ---- Demand 1: each call gives a defined outcome or a numbered refusal, and a refusal changes no byte.
 
@@ -51,6 +54,12 @@ pub record Demand1 : Type 0 where
   -- the listing's is the text's length, and the text stands at the buffer's front
   pub listing : (file before after : List ℕ) (r : Written) → Lists file before after r →
       Defined (bufferLines (length before) listingMax) before after (written r) (Listed file before after)
+  -- the better of two has no buffer; its answer is the file that has the higher list, the first where the lists are equal
+  pub better : (f g : List ℕ) (r : Choice) → Chooses f g r → Defined (betterLines f g) [] [] (sideOf r) (Chosen f g)
+  -- and what it hands back is the sheet body of that file, to the byte, and nothing at a refusal
+  pub handed-back : (f g part : List ℕ) → HandsBack f g part →
+      ((q : Refusal) → FirstHolds (betterLines f g) q → part ≡ [])
+      × (NoneHolds (betterLines f g) → (side : Side) × (Chosen f g side × (part ≡ sheetBody (fileOn side f g))))
 
 -- ---- Demand 2: lawful and wasteful are document 000's frugal and not non-wasteful; files written read back the same, and an accepted file
 -- written again has the same bytes.
@@ -126,3 +135,23 @@ pub record Demand3 : Type 0 where
   pub planned-passes : (file before after : List ℕ) (n : ℕ) → Plans file before after (Whole n) →
       (moves moves′ : List ℕ) (r : Marking) → movesRoom ≤ length moves → Marks (take n after) moves moves′ r →
       told r ≡ answer (record { mark = 4; window = 0; seat = 0; moves = 0 })
+
+-- ---- The better of two hand-ins (paper 02, E1), for its reader
+
+-- one of two files is chosen
+pub record ChosenOf (f g : List ℕ) (side : Side) : Type 0 where
+  pub choice : Choice
+  pub chooses : Chooses f g choice
+  pub answers : sideOf choice ≡ answer side
+
+pub record BetterOfTwo : Type 0 where
+  -- its list is not lower than the other's
+  pub not-lower : (f g : List ℕ) (side : Side) → ChosenOf f g side →
+      Higher NoHigher (listOf (fileOn side f g)) (listOf (fileOn (other side) f g)) → ⊥
+  -- where the marker passes either of the two, it passes the one that is chosen; each with a buffer that is long enough
+  pub passes : (f g : List ℕ) (side either : Side) → ChosenOf f g side →
+      (before after before′ after′ : List ℕ) (r r′ : Marking) → movesRoom ≤ length before → movesRoom ≤ length before′ →
+      Marks (fileOn either f g) before after r → Passing (told r) → Marks (fileOn side f g) before′ after′ r′ → Passing (told r′)
+  -- and its sheet body lies within it, where the numbers for C say
+  pub inside : (f g : List ℕ) (side : Side) → ChosenOf f g side →
+      sheetStart (fileOn side f g) + sheetSize (fileOn side f g) ≤ length (fileOn side f g)

@@ -26,7 +26,7 @@ use Rattle.answers.specs.declared.Marking.{Marking}
 use Rattle.answers.specs.Answers.{told}
 use Rattle.marker.specs.Marking.{markedSheet, markFile, results, PathWritten, BufferAfter, Marks}
 use Rattle.marker.proofs.Theorems.{marks-says, marks-buffer}
-use Rattle.marker.proofs.Files.{book-read, sheet-read}
+use Rattle.lawful.proofs.Readings.{book-read, sheet-read}
 use Rattle.lines.specs.Lines.{refusalLine, Printed}
 use Rattle.listing.specs.Listing.{listingOf, listingMax}
 use Rattle.listing.specs.Calls.{MovesOf, Listed, Lists}

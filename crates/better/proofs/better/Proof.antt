@@ -1,18 +1,18 @@
 -- `better::better` meets its contract, by cases of the choice.
 use borrow.Author.Needs.{needs}
 use mathlib.Core.Path.{refl, ap}
-use Rattle.better.specs.Choice.{first, second, told}
+use Rattle.better.specs.Choice.{first, second, sideOf}
 use Rattle.better.proofs.Choosing.{lawful-both, hands-back}
 use Rattle.better.proofs.better.Statement.{statement}
 use Rattle.better.proofs.better.Tie as tie
 
 sheet-body-requires : tie.Need-sheet-body-requires
 sheet-body-requires c κs =
-    lawful-both _ _ first _ (c .before .before .choose .ensures) (ap told (c .enum-told .given .1)) .0
+    lawful-both _ _ first _ (c .before .before .choose .ensures) (ap sideOf (c .enum-told .given .1)) .0
 
 sheet-body-requires-2 : tie.Need-sheet-body-requires-2
 sheet-body-requires-2 c κs =
-    lawful-both _ _ second _ (c .before .before .choose .ensures) (ap told (c .enum-told2 .given .1)) .1
+    lawful-both _ _ second _ (c .before .before .choose .ensures) (ap sideOf (c .enum-told2 .given .1)) .1
 
 returns : tie.Need-returns
 returns c = hands-back (c .before .before .before .choose .ensures) (c .before .enum-told .given .1) (c .sheet-body .ensures)

@@ -1,0 +1,19 @@
+-- `credits_better` meets its contract: the choice, in numbers, with where both bodies lie.
+use borrow.Author.Needs.{needs}
+use mathlib.Core.Path.{ap₂, _∙_}
+use Rattle.better.specs.Numbers.{betterNumbers}
+use Rattle.better.specs.declared.Span.{Span}
+use Rattle.credits.proofs.credits_better.Statement.{statement}
+use Rattle.credits.proofs.credits_better.Tie as tie
+
+returns : tie.Need-returns
+returns c =
+    record {
+      answers = c .before .before .before .choose .result;
+      meets = c .before .before .before .choose .ensures;
+      says = c .of .ensures ∙ ap₂ (λ (a b : Span). betterNumbers a b _) (c .before .before .sheet-span .ensures) (c .before .sheet-span2 .ensures);
+    }
+
+pub credits-better-spec : {M : Type 1} → statement M
+credits-better-spec =
+    tie.close (tie.spec (λ c κs. search needs) (λ c κs. search needs) (λ c κs. search needs) (λ c κs. search needs) returns)
