@@ -8,10 +8,12 @@ use Rattle.credits.proofs.credits_better.Tie as tie
 
 returns : tie.Need-returns
 returns c =
+    let choose = c .before .before .before .choose in
     record {
-      answers = c .before .before .before .choose .result;
-      meets = c .before .before .before .choose .ensures;
-      says = c .of .ensures ∙ ap₂ (λ (a b : Span). betterNumbers a b _) (c .before .before .sheet-span .ensures) (c .before .sheet-span2 .ensures);
+      answers = choose .result;
+      meets = choose .ensures;
+      says = c .of .ensures
+          ∙ ap₂ (λ (a b : Span). betterNumbers a b (choose .result)) (c .before .before .sheet-span .ensures) (c .before .sheet-span2 .ensures);
     }
 
 pub credits-better-spec : {M : Type 1} → statement M
