@@ -44,8 +44,7 @@ fn draw_sheet(state: &mut u32, s: Small) -> [u16; 12] {
 }
 
 // The file of a small book, mostly with a sheet.
-fn draw_written(state: &mut u32, file: &mut [u8]) -> usize {
-    let s = draw_small(state);
+fn draw_written(state: &mut u32, file: &mut [u8], s: Small) -> usize {
     let there = below(state, 4) != 0;
     let cells = draw_sheet(state, s);
     put_small(file, s, there, cells)
@@ -131,8 +130,23 @@ pub fn draw_file(state: &mut u32, file: &mut [u8]) -> usize {
     if below(state, 4) == 0 {
         return draw_made(state, file);
     }
-    let length = draw_written(state, file);
+    let s = draw_small(state);
+    let length = draw_written(state, file, s);
     damage(state, file, length)
+}
+
+// A hand-in of a book: mostly as it was written, or damaged, or with a small number changed.
+pub fn draw_hand_in(state: &mut u32, file: &mut [u8], s: Small) -> usize {
+    let length = draw_written(state, file, s);
+    let way = below(state, 8);
+    match way {
+        0 => damage(state, file, length),
+        1 | 2 => {
+            change(state, file, 26, length, 6);
+            length
+        }
+        _ => length,
+    }
 }
 
 // A book of a small one's numbers, in which one of them may be out of its range.

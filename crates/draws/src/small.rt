@@ -31,3 +31,11 @@ pub fn draw_small(state: &mut u32) -> Small {
         caps,
     }
 }
+
+// Mostly the same book again.
+pub fn draw_other(state: &mut u32, s: Small) -> Small {
+    if below(state, 8) == 0 {
+        return draw_small(state);
+    }
+    s
+}

@@ -1,5 +1,4 @@
 -- The laws that the functions' proofs cite, and what is known of a file that the marker does not refuse.
-pub mod Sheets
 pub mod Accepted
 pub mod Readings
 pub mod Taken

@@ -1,6 +1,8 @@
 // Small books and sheets in the form that the library takes.
 use crate::Small;
+use crate::paths::byte;
 use dayfile::Book;
+use dayfile::Day;
 use sheet::Caps;
 
 // The book in memory, but for its caps.
@@ -35,4 +37,23 @@ pub fn cells_of(grid: Caps) -> [u16; 12] {
         cells[k] = grid[i][w];
     }
     cells
+}
+
+// A day of a small book.
+pub fn small_of(day: Day) -> Small {
+    let book = day.book;
+    let classes = book.classes;
+    let supplies = book.supplies;
+    Small {
+        seats: book.seats,
+        windows: book.windows,
+        classes,
+        supplies,
+        caps: cells_of(day.caps.to_grid()),
+    }
+}
+
+// How many bytes the sheet of a small book's file has: as many as the caps, whose length is the field at 18. They are the file's last ones.
+pub fn sheet_size(file: &[u8]) -> usize {
+    byte(file, 18) as usize
 }

@@ -52,8 +52,8 @@ fn step(p: Played, sheet: &[u16; 12], caps: &[u16; 12], m: Move) -> Played {
 }
 
 // A byte; 0 where there is none.
-fn byte(moves: &[u8], at: usize) -> u8 {
-    if at < moves.len() { moves[at] } else { 0 }
+pub fn byte(bytes: &[u8], at: usize) -> u8 {
+    if at < bytes.len() { bytes[at] } else { 0 }
 }
 
 // The moves of a path, from the front of the buffer. No path has more than 31.

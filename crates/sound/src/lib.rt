@@ -9,10 +9,8 @@ use options::check_options;
 use values::check_values;
 
 pub mod contents;
-pub mod entries;
 pub mod lengths;
 pub mod options;
-pub mod values;
 
 // The refusal of the first line that holds, down the table: contents, lengths, values, and the kinds that may be missing.
 pub fn check(file: &[u8]) -> Check

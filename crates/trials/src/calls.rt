@@ -54,9 +54,9 @@ fn marked(m: Numbers) -> Reply {
     taken(ROOM + 1)
 }
 
-fn settled(file: &[u8]) -> bool {
+pub fn mark_of(file: &[u8]) -> Numbers {
     let mut moves = [255u8; MOVES_ROOM];
-    mark(file, &mut moves).mark == 4
+    mark(file, &mut moves)
 }
 
 fn first(out: &[u8]) -> u8 {
@@ -76,13 +76,14 @@ fn ask(call: Call, file: &[u8], day: Day, out: &mut [u8]) -> Reply {
 fn look(reply: Reply, file: &[u8], out: &[u8]) -> Seen {
     let written = front(out, reply.length);
     let sound = read_check(written);
+    let numbers = mark_of(written);
     Seen {
         reply,
         kept: (reply.length <= out.len()) & all_from(out, reply.length, 255),
         letter: first(out),
         same: check::same(written, file),
         sound: sound.taken,
-        settled: settled(written),
+        settled: numbers.mark == 4,
     }
 }
 

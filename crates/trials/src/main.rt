@@ -11,6 +11,7 @@ use tally::Tally;
 
 pub mod calls;
 pub mod full;
+pub mod pairs;
 pub mod refused;
 pub mod sheets;
 pub mod tally;
@@ -40,6 +41,7 @@ fn k11() {
 enum Kind {
     Small,
     Damaged,
+    Pair,
     Full,
 }
 
@@ -47,6 +49,7 @@ fn trial(kind: Kind, state: &mut u32, tally: Tally) -> Tally {
     match kind {
         Kind::Small => sheets::judge(state, tally),
         Kind::Damaged => refused::judge(state, tally),
+        Kind::Pair => pairs::judge(state, tally),
         Kind::Full => full::judge(state, tally),
     }
 }
@@ -108,6 +111,35 @@ fn damaged_files(state: &mut u32) {
     );
 }
 
+fn hand_ins(state: &mut u32) {
+    run(
+        Kind::Pair,
+        20000,
+        state,
+        b"pairs of hand-ins, by file: the first, the second
+  the better one: \x81, \x82
+  line 1: \x84, \x85
+  line 2: \x87, \x88
+  line 3: \x8a, \x8b
+  line 4: \x8d, \x8e
+  line 5: \x90, \x91
+  line 6: \x93, \x94
+  line 7: \x96, \x97
+  line 8: \x99, \x9a
+  line 9: \x9c, \x9d
+  line 10: \x9f, \xa0
+  line 11: \xa2, \xa3
+  line 12: \xa5, \xa6
+  line 13: \xa8, \xa9
+  line 14: \xab, \xac
+  line 15: \xae, \xaf
+  line 17: \x80
+  different sheets with equal lists: \x83
+  wrong: \xb3
+",
+    );
+}
+
 fn full_books(state: &mut u32) {
     run(
         Kind::Full,
@@ -125,4 +157,5 @@ fn main() {
     small_books(&mut state);
     damaged_files(&mut state);
     full_books(&mut state);
+    hand_ins(&mut state);
 }

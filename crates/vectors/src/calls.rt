@@ -1,5 +1,7 @@
 // What each call of the library says, and its output buffer afterwards.
+ghost use Prim.Native.Nat.{_<_};
 use answers::Numbers;
+use better::Choice;
 use dayfile::Book;
 use dayfile::Day;
 use say::checked;
@@ -7,15 +9,24 @@ use say::front;
 use say::numbers;
 use say::replied;
 use say::say_buffer;
+use say::say_hex;
 use say::say_named;
 use say::say_refusal;
 use say::say_reply;
 use say::say_text;
 
-// The file of a line: its length is the second number, and its fields are the numbers after that.
-pub fn file_in(numbers: &[u8]) -> &[u8] {
+// A file of a line: its length is the number at a place, and its fields are the numbers after that.
+pub fn file_at(numbers: &[u8], place: usize) -> &[u8]
+    requires { ⌜ place < 65536 ⌝ }
+{
+    let length = numbers::wide(numbers, place);
+    numbers::bytes(numbers, place + 1, length)
+}
+
+// The second file of a line: all fields of the first stand before it.
+pub fn second_in(numbers: &[u8]) -> &[u8] {
     let length = numbers::wide(numbers, 1);
-    numbers::bytes(numbers, 2, length)
+    file_at(numbers, 2 + (length + 1) / 2)
 }
 
 // A book in memory: whether it has a sheet, seats, windows, classes, supplies, caps, sheet.
@@ -85,4 +96,25 @@ pub fn list(file: &[u8], out: &mut [u8]) {
     say_reply(r);
     say_text(b"\n");
     say_text(front(out, r.length));
+}
+
+fn say_sheet(name: &[u8], file: &[u8]) {
+    let span = better::sheet_span(file);
+    say_text(name);
+    say_named(b", start ", span.start);
+    say_named(b" length ", span.length);
+}
+
+// A refusal and the file that it is of, if it is of one; or the file that is chosen, and where its sheet lies. Then what is handed back.
+pub fn better<'a>(first: &'a [u8], second: &'a [u8]) {
+    match better::choose(first, second) {
+        Choice::Refused { file, number, at } => {
+            say_refusal(number, at);
+            say_named(b", file ", file as usize);
+        }
+        Choice::First => say_sheet(b"first", first),
+        Choice::Second => say_sheet(b"second", second),
+    }
+    say_text(b", part ");
+    say_hex(better::better(first, second));
 }
