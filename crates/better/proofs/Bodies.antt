@@ -10,8 +10,8 @@ use Rattle.dayfile.specs.Table.{firstOf, readLines, markerLines, sheetLines}
 use Rattle.dayfile.proofs.Lines.{none-parts}
 use Rattle.dayfile.proofs.Sound.{sound}
 use Rattle.dayfile.proofs.Bodies.{sheet-inside}
-use Rattle.better.specs.declared.Span.{Span}
-use Rattle.better.specs.Numbers.{spanOf}
+use Rattle.choice.specs.declared.Span.{Span}
+use Rattle.choice.specs.Numbers.{spanOf}
 
 pub span-at : (f : List ℕ) {e at n : ℕ} → entryOf f 4 ≡ some e → at ≡ start f e → n ≡ size f e →
     _≡_ {A = Span} (record { start = at; length = n }) (spanOf f)

@@ -23,8 +23,8 @@ use Rattle.dayfile.specs.declared.Day.{Day}
 use Rattle.dayfile.specs.declared.Reading.{Reading}
 use Rattle.sheet.specs.Sheets.{gridOf}
 use Rattle.lawful.proofs.Readings.{book-read, fit-read, sheet-read}
-use Rattle.better.specs.declared.Choice.{Choice}
-use Rattle.better.specs.declared.Choice.the-variants.{Refused, First, Second}
+use Rattle.choice.specs.declared.Choice.{Choice}
+use Rattle.choice.specs.declared.Choice.the-variants.{Refused, First, Second}
 use Rattle.better.specs.Choice.{Side, first, second, listOf, sideOf, Chooses, handedBack, HandsBack}
 use Rattle.better.specs.Steps.{Compared}
 

@@ -10,8 +10,8 @@ use Rattle.model.specs.Fair.{profileOf}
 use Rattle.dayfile.specs.Layout.{bookOf, markedSheet, sheetBody}
 use Rattle.dayfile.specs.Table.{refuse, firstOf, sheetLines, betterLines}
 use Rattle.dayfile.specs.Outcome.{Outcome, turnedAway, answer, Defined}
-use Rattle.better.specs.declared.Choice.{Choice}
-use Rattle.better.specs.declared.Choice.the-variants.{Refused, First, Second}
+use Rattle.choice.specs.declared.Choice.{Choice}
+use Rattle.choice.specs.declared.Choice.the-variants.{Refused, First, Second}
 
 -- the list of a hand-in
 abbrev pub listOf : List ℕ → List Level

@@ -8,8 +8,10 @@ ghost use Rattle.dayfile.specs.Layout.{sheetBody};
 ghost use Rattle.dayfile.specs.Table.{firstOf, sheetLines, sameBook};
 ghost use Rattle.dayfile.specs.Memory.{cellsIn, dayBook};
 ghost use Rattle.better.specs.Choice.{Chooses, HandsBack};
-ghost use Rattle.better.specs.Numbers.{spanOf, betterNumbers};
+ghost use Rattle.choice.specs.Numbers.{spanOf};
 ghost use Rattle.better.specs.Steps.{Compared};
+use choice::Choice;
+use choice::Span;
 use dayfile::Check;
 use dayfile::Day;
 use dayfile::Found;
@@ -19,29 +21,6 @@ use fields::start;
 use lawful::check_lawful;
 use pair::same_book;
 use pair::second_is_higher;
-
-// A refusal and the file that it is of, 0 where it is of both; or which of the two is chosen.
-pub enum Choice {
-    Refused { file: u8, number: u8, at: usize },
-    First,
-    Second,
-}
-
-// Where a sheet body lies in its file; both are 0 where there is none.
-pub struct Span {
-    pub start: usize,
-    pub length: usize,
-}
-
-// The same for C: a refusal and its file, or the file that is chosen, 1 or 2, and where its sheet body lies.
-#[repr(C)]
-pub struct BetterResult {
-    pub refusal: u32,
-    pub offset: usize,
-    pub file: u32,
-    pub start: usize,
-    pub length: usize,
-}
 
 // Line 17, and then the list that is higher, of two days with lawful sheets.
 fn compare(first: Day, second: Day) -> Choice
@@ -130,36 +109,5 @@ pub fn better<'a>(first: &'a [u8], second: &'a [u8]) -> &'a [u8]
             number: _,
             at: _,
         } => &first[0..0],
-    }
-}
-
-impl BetterResult {
-    // A choice in numbers, where the two sheet bodies lie at these places.
-    pub fn of(choice: Choice, first: Span, second: Span) -> BetterResult
-        ensures { λ r. ⌜ r ≡ betterNumbers first second choice ⌝ }
-    {
-        match choice {
-            Choice::Refused { file, number, at } => BetterResult {
-                refusal: number as u32,
-                offset: at,
-                file: file as u32,
-                start: 0,
-                length: 0,
-            },
-            Choice::First => BetterResult {
-                refusal: 0,
-                offset: 0,
-                file: 1,
-                start: first.start,
-                length: first.length,
-            },
-            Choice::Second => BetterResult {
-                refusal: 0,
-                offset: 0,
-                file: 2,
-                start: second.start,
-                length: second.length,
-            },
-        }
     }
 }

@@ -6,9 +6,9 @@ use Rattle.dayfile.specs.Memory.{Reads, WritesDay}
 use Rattle.marker.specs.Marking.{Marks}
 use Rattle.planner.specs.Planning.{Plans}
 use Rattle.listing.specs.Calls.{Lists}
-use Rattle.better.specs.declared.BetterResult.{BetterResult}
+use Rattle.choice.specs.declared.BetterResult.{BetterResult}
 use Rattle.better.specs.Choice.{Chooses}
-use Rattle.better.specs.Numbers.{spanOf, betterNumbers}
+use Rattle.choice.specs.Numbers.{spanOf, betterNumbers}
 use Rattle.answers.specs.declared.CreditsBook.{CreditsBook}
 use Rattle.answers.specs.declared.ReadResult.{ReadResult}
 use Rattle.answers.specs.declared.MarkResult.{MarkResult}

@@ -5,9 +5,9 @@ use answers::CreditsBook;
 use answers::MarkResult;
 use answers::ReadResult;
 use answers::WriteResult;
-use better::BetterResult;
 use better::choose;
 use better::sheet_span;
+use choice::BetterResult;
 
 // The book and the sheet of a file.
 #[no_mangle]
@@ -54,9 +54,5 @@ pub extern "C" fn credits_listing(file: &[u8], out: &mut [u8]) -> WriteResult
 pub extern "C" fn credits_better(first: &[u8], second: &[u8]) -> BetterResult
     ensures { λ r. ⌜ BettersAs (now (first .entry)) (now (second .entry)) r ⌝ }
 {
-    BetterResult::of(
-        choose(first, second),
-        sheet_span(first),
-        sheet_span(second),
-    )
+    BetterResult::of(choose(first, second), sheet_span(first), sheet_span(second))
 }

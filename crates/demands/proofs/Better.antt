@@ -23,8 +23,8 @@ use Rattle.answers.specs.declared.Marking.{Marking}
 use Rattle.answers.specs.Answers.{told}
 use Rattle.lawful.proofs.Accepted.{has-sheet-of, accepted-sheet, accepted-lawful}
 use Rattle.marker.specs.Marking.{Marks, Passing}
-use Rattle.better.specs.declared.Choice.{Choice}
-use Rattle.better.specs.declared.Choice.the-variants.{Refused, First, Second}
+use Rattle.choice.specs.declared.Choice.{Choice}
+use Rattle.choice.specs.declared.Choice.the-variants.{Refused, First, Second}
 use Rattle.better.specs.Choice.{Side, first, second, other, fileOn, listOf, Chosen, sideOf, handedBack, HandsBack}
 use Rattle.better.proofs.Choosing.{lawful-both, first-not-second}
 use Rattle.demands.specs.Demands.{Marked, ChosenOf}

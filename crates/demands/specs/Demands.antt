@@ -28,7 +28,7 @@ use Rattle.answers.specs.declared.Marking.{Marking}
 use Rattle.answers.specs.Answers.{told}
 use Rattle.marker.specs.Marking.{markedSheet, BufferAfter, Marks, movesIn, Passing}
 use Rattle.planner.specs.Planning.{Planned, Plans}
-use Rattle.better.specs.declared.Choice.{Choice}
+use Rattle.choice.specs.declared.Choice.{Choice}
 use Rattle.better.specs.Choice.{Side, other, fileOn, listOf, Chosen, sideOf, Chooses, HandsBack}
 
 -- ---- Demand 1: each call gives a defined outcome or a numbered refusal, and a refusal changes no byte.

@@ -3,13 +3,13 @@ ghost use mathlib.Core.Path.{_≡_};
 ghost use lib.ListN.{take, drop};
 ghost use Rattle.dayfile.specs.Table.{line1, line2, line3, line6, firstOf, contentsLines};
 ghost use Rattle.dayfile.specs.Memory.{found, refused};
-use entries::Test;
-use entries::wrong_entry;
 use dayfile::Check;
 use dayfile::Found;
 use dayfile::KNOWN;
 use dayfile::first_of;
 use dayfile::outside_at;
+use entries::Test;
+use entries::wrong_entry;
 use fields::count;
 use fields::ends;
 

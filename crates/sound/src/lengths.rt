@@ -4,12 +4,12 @@ ghost use mathlib.Core.Bool.{not};
 ghost use Rattle.model.specs.Lowest.{when};
 ghost use Rattle.dayfile.specs.Table.{sizeRight, firstOf, lengthLines};
 ghost use Rattle.dayfile.specs.Memory.{found, refused};
-use entries::Test;
-use entries::wrong_entry;
 use dayfile::Check;
 use dayfile::Found;
 use dayfile::first_of;
 use dayfile::within;
+use entries::Test;
+use entries::wrong_entry;
 use fields::size;
 
 // Low to high, and even.

@@ -1,7 +1,7 @@
 // What each call of the library says, and its output buffer afterwards.
 ghost use Prim.Native.Nat.{_<_};
 use answers::Numbers;
-use better::Choice;
+use choice::Choice;
 use dayfile::Book;
 use dayfile::Day;
 use say::checked;

@@ -1,8 +1,8 @@
 -- `credits_better` meets its contract: the choice, in numbers, with where both bodies lie.
 use borrow.Author.Needs.{needs}
 use mathlib.Core.Path.{ap₂, _∙_}
-use Rattle.better.specs.Numbers.{betterNumbers}
-use Rattle.better.specs.declared.Span.{Span}
+use Rattle.choice.specs.Numbers.{betterNumbers}
+use Rattle.choice.specs.declared.Span.{Span}
 use Rattle.credits.proofs.credits_better.Statement.{statement}
 use Rattle.credits.proofs.credits_better.Tie as tie
 

@@ -2,10 +2,10 @@
 use mathlib.Core.List.{List}
 use Prim.Native.Nat.{ℕ}
 use Rattle.dayfile.specs.Layout.{sheetStart, sheetSize}
-use Rattle.better.specs.declared.Choice.{Choice}
-use Rattle.better.specs.declared.Choice.the-variants.{Refused, First, Second}
-use Rattle.better.specs.declared.Span.{Span}
-use Rattle.better.specs.declared.BetterResult.{BetterResult}
+use Rattle.choice.specs.declared.Choice.{Choice}
+use Rattle.choice.specs.declared.Choice.the-variants.{Refused, First, Second}
+use Rattle.choice.specs.declared.Span.{Span}
+use Rattle.choice.specs.declared.BetterResult.{BetterResult}
 
 -- where the sheet body of a file lies
 abbrev pub spanOf : List ℕ → Span

@@ -1,9 +1,9 @@
--- `better::BetterResult::of` meets its contract: the numbers of each case.
+-- `choice::BetterResult::of` meets its contract: the numbers of each case.
 use mathlib.Core.Path.{ap, sym}
 use borrow.Author.Needs.{needs}
-use Rattle.better.specs.Numbers.{betterNumbers}
-use Rattle.better.proofs.BetterResult.of.Statement.{statement}
-use Rattle.better.proofs.BetterResult.of.Tie as tie
+use Rattle.choice.specs.Numbers.{betterNumbers}
+use Rattle.choice.proofs.BetterResult.of.Statement.{statement}
+use Rattle.choice.proofs.BetterResult.of.Tie as tie
 
 returns : tie.Need-returns
 returns c = ap (betterNumbers _ _) (sym (c .before .choice .given .1))

@@ -1,0 +1,133 @@
+// Two hand-ins of small books: which is the better one, held against the marker's refusals, the files' bytes and the oracle's lists.
+use crate::calls::mark;
+use crate::calls::mark_of;
+use crate::tally::Tally;
+use crate::tally::count;
+use better::choose;
+use better::sheet_span;
+use choice::BetterResult;
+use draws::damage::draw_hand_in;
+use draws::put_small;
+use draws::small::draw_other;
+use draws::small::draw_small;
+use lawful::MOVES_ROOM;
+use oracle::memory::cells_of;
+use oracle::memory::sheet_size;
+use oracle::memory::small_of;
+use oracle::paths::play;
+use oracle::rules::above;
+use oracle::rules::rank_of;
+use say::front;
+use say::numbers;
+
+// Line 17 does not hold: what stands ahead of the sheet, with the contents that say how much it is, is the same.
+fn one_book(first: &[u8], second: &[u8]) -> bool {
+    let ahead = std::num::wrapping_sub_usize(first.len(), sheet_size(first));
+    check::same(front(first, ahead), front(second, ahead))
+}
+
+fn rank_in(file: &[u8]) -> [u64; 8] {
+    let read = reader::read(file);
+    let day = read.day;
+    let cells = cells_of(day.sheet.to_grid());
+    rank_of(small_of(day), &cells)
+}
+
+// An answer in numbers, with where the sheet of the chosen file lies: it ends where the file does.
+fn told(file: u32, number: u8, at: usize, chosen: &[u8]) -> BetterResult {
+    let length = sheet_size(chosen);
+    BetterResult {
+        refusal: number as u32,
+        offset: at,
+        file,
+        start: std::num::wrapping_sub_usize(chosen.len(), length),
+        length,
+    }
+}
+
+// What must be answered.
+fn wanted(first: &[u8], second: &[u8]) -> BetterResult {
+    let a = mark_of(first);
+    if a.mark == 0 {
+        return told(1, a.refusal, a.offset, b"");
+    }
+    let b = mark_of(second);
+    if b.mark == 0 {
+        return told(2, b.refusal, b.offset, b"");
+    }
+    if !one_book(first, second) {
+        return told(0, 17, 0, b"");
+    }
+    if above(rank_in(second), rank_in(first), 4) {
+        return told(2, 0, 0, second);
+    }
+    told(1, 0, 0, first)
+}
+
+fn answered(first: &[u8], second: &[u8]) -> BetterResult {
+    BetterResult::of(choose(first, second), sheet_span(first), sheet_span(second))
+}
+
+fn same_numbers(a: BetterResult, b: BetterResult) -> bool {
+    (a.refusal == b.refusal)
+        & (a.offset == b.offset)
+        & (a.file == b.file)
+        & (a.start == b.start)
+        & (a.length == b.length)
+}
+
+// Whether the bytes of the chosen sheet are handed back, and none at a refusal.
+fn rightly_handed<'a>(first: &'a [u8], second: &'a [u8], want: BetterResult) -> bool {
+    let part = better::better(first, second);
+    let place = want.start / 2;
+    if want.file == 2 {
+        return check::same(part, numbers::bytes(second, place, want.length));
+    }
+    check::same(part, numbers::bytes(first, place, want.length))
+}
+
+// Two files. They are counted by the file that is chosen or refused, or, for line 17, by neither.
+fn judge_pair<'a>(tally: Tally, first: &'a [u8], second: &'a [u8]) -> Tally {
+    let want = wanted(first, second);
+    let right = same_numbers(answered(first, second), want) & rightly_handed(first, second, want);
+    let column = want.file as usize % 3;
+    count(tally, column, want.refusal as usize % 17, right)
+}
+
+// The file after the marker's moves have been played, at the front of a buffer; its length.
+fn put_played(file: &[u8], out: &mut [u8]) -> usize {
+    let mut moves = [255u8; MOVES_ROOM];
+    let m = mark(file, &mut moves);
+    let read = reader::read(file);
+    let day = read.day;
+    let s = small_of(day);
+    let caps = s.caps;
+    let played = play(cells_of(day.sheet.to_grid()), &caps, &moves, m.moves);
+    let cells = played.cells;
+    put_small(out, s, true, cells)
+}
+
+// Two files in both orders. Equal lists, where the first of two sheets is chosen in either order, are counted as line 1 of neither.
+fn judge_both<'a>(tally: Tally, first: &'a [u8], second: &'a [u8]) -> Tally {
+    let seen = judge_pair(judge_pair(tally, first, second), second, first);
+    let a = answered(first, second);
+    let b = answered(second, first);
+    if (a.refusal == 0) & (a.file == b.file) & !check::same(first, second) {
+        return count(seen, 0, 1, true);
+    }
+    seen
+}
+
+// A hand-in against another, mostly of the same book, and against itself after the marker's moves.
+pub fn judge(state: &mut u32, tally: Tally) -> Tally {
+    let s = draw_small(state);
+    let other = draw_other(state, s);
+    let mut first = [0u8; 128];
+    let n = draw_hand_in(state, &mut first, s);
+    let mut second = [0u8; 128];
+    let m = draw_hand_in(state, &mut second, other);
+    let seen = judge_both(tally, front(&first, n), front(&second, m));
+    let mut played = [0u8; 128];
+    let k = put_played(front(&first, n), &mut played);
+    judge_both(seen, front(&first, n), front(&played, k))
+}
