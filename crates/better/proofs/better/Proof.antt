@@ -8,11 +8,13 @@ use Rattle.better.proofs.better.Tie as tie
 
 sheet-body-requires : tie.Need-sheet-body-requires
 sheet-body-requires c κs =
-    lawful-both _ _ first _ (c .before .before .choose .ensures) (ap sideOf (c .enum-told .given .1)) .0
+    let both = lawful-both _ _ first _ (c .before .before .choose .ensures) (ap sideOf (c .enum-told .given .1)) in
+    search needs
 
 sheet-body-requires-2 : tie.Need-sheet-body-requires-2
 sheet-body-requires-2 c κs =
-    lawful-both _ _ second _ (c .before .before .choose .ensures) (ap sideOf (c .enum-told2 .given .1)) .1
+    let both = lawful-both _ _ second _ (c .before .before .choose .ensures) (ap sideOf (c .enum-told2 .given .1)) in
+    search needs
 
 returns : tie.Need-returns
 returns c = hands-back (c .before .before .before .choose .ensures) (c .before .enum-told .given .1) (c .sheet-body .ensures)

@@ -6,8 +6,10 @@ use Rattle.pair.proofs.second_is_higher.Tie as tie
 
 is-higher-requires : tie.Need-is-higher-requires
 is-higher-requires c κs =
-    let terms = c .before .before .terms-of .ensures in
-    (terms .0 .seats-most, (c .before .profile .ensures .bounded, c .profile2 .ensures .bounded))
+    let seats = c .before .before .terms-of .ensures .0 .seats-most in
+    let one = c .before .profile .ensures .bounded in
+    let two = c .profile2 .ensures .bounded in
+    search needs
 
 returns : tie.Need-returns
 returns c caps =
