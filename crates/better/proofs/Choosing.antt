@@ -18,7 +18,7 @@ use Rattle.dayfile.proofs.Answers.{defined-refusal, defined-answer, answer-none
 use Rattle.dayfile.proofs.Lines.{stop-in, on-after, none-parts}
 use Rattle.dayfile.proofs.Tests.{keeps, fails}
 use Rattle.dayfile.specs.Bounds.{Fit}
-use Rattle.dayfile.specs.Memory.{sizedGrid, bookIn, cellsIn, dayBook, Reads}
+use Rattle.dayfile.specs.Memory.{sizedGrid, cellsIn, dayBook, Reads}
 use Rattle.dayfile.specs.declared.Day.{Day}
 use Rattle.dayfile.specs.declared.Reading.{Reading}
 use Rattle.sheet.specs.Sheets.{gridOf}
@@ -34,11 +34,6 @@ first-not-second e = let z : _≡_ {A = ℕ} 0 1 = cc in omega arith
 -- ---- two days in memory
 
 module _ (d e : Day) where
-  -- line 17's test, on the caps as arrays of arrays
-  pub books-seen : {caps caps′ : Grid} {same : Bool} → caps ≡ gridOf (d .caps) → caps′ ≡ gridOf (e .caps) →
-      same ≡ sameBook (bookIn (d .book) caps) (bookIn (e .book) caps′) → sameBook (dayBook d) (dayBook e) ≡ same
-  books-seen p q is = sym (is ∙ ap₂ (λ (x y : Grid). sameBook (bookIn (d .book) x) (bookIn (e .book) y)) p q)
-
   -- of one book: the lists of both sheets
   module _ (same : sameBook (dayBook d) (dayBook e) ≡ true) where
     one : dayBook d ≡ dayBook e
@@ -50,12 +45,14 @@ module _ (d e : Day) where
         (sym (seats-in (d .book) (gridOf (d .caps))) ∙ ap seats one ∙ seats-in (e .book) (gridOf (e .caps)))
         (sym (windows-in (d .book) (gridOf (d .caps))) ∙ ap windows one ∙ windows-in (e .book) (gridOf (e .caps)))
 
-    pub lists-seen : {sheet sheet′ : Grid} {higher : Bool} → sheet ≡ gridOf (d .sheet) → sheet′ ≡ gridOf (e .sheet) →
-        ((higher ≡ true) ↔ Higher NoHigher (profileOf (dayBook d) (cellsIn (d .book) sheet)) (profileOf (dayBook d) (cellsIn (d .book) sheet′))) →
+    pub lists-seen : {higher : Bool} →
+        ((higher ≡ true)
+        ↔ Higher NoHigher (profileOf (dayBook d) (cellsIn (d .book) (gridOf (d .sheet))))
+        (profileOf (dayBook d) (cellsIn (d .book) (gridOf (e .sheet))))) →
         (higher ≡ true)
         ↔ Higher NoHigher (profileOf (dayBook d) (cellsIn (d .book) (gridOf (d .sheet))))
         (profileOf (dayBook e) (cellsIn (e .book) (gridOf (e .sheet))))
-    lists-seen p q is = rw (← p, ← q, ← one, ← cells-same _) is
+    lists-seen is = rw (← one, ← cells-same _) is
 
 -- ---- two files
 

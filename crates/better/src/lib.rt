@@ -30,18 +30,14 @@ fn compare(first: Day, second: Day) -> Choice
         (profileOf (dayBook second) (cellsIn (second .book) (gridOf (second .sheet)))) r ⌝ }
 {
     let book = first.book;
-    let caps = first.caps.to_grid();
-    let second_caps = second.caps.to_grid();
-    if !same_book(book, &caps, second.book, &second_caps) {
+    if !same_book(book, first.caps, second.book, second.caps) {
         return Choice::Refused {
             file: 0,
             number: 17,
             at: 0,
         };
     }
-    let sheet = first.sheet.to_grid();
-    let second_sheet = second.sheet.to_grid();
-    if second_is_higher(book, &sheet, &second_sheet) {
+    if second_is_higher(book, first.sheet, second.sheet) {
         return Choice::Second;
     }
     Choice::First

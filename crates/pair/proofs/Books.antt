@@ -1,5 +1,5 @@
 -- Two books in memory are the same exactly where their used entries are. Assumes nothing.
-use mathlib.Core.Path.{_≡_, refl, sym, ap, ap₂, _∙_}
+use mathlib.Core.Path.{_≡_, refl, sym, ap, ap₂, subst₂, _∙_}
 use mathlib.Core.Bool.{Bool, true, false, true≢false}
 use mathlib.Core.Logic.{_↔_}
 use mathlib.Core.List.{List, []}
@@ -9,6 +9,9 @@ use lib.ListN.{length, getD}
 use Rattle.lists.proofs.Tables.{table-same}
 use Rattle.model.specs.Book.{Book, Grid, cell}
 use Rattle.model.proofs.Tests.{not-true}
+use Rattle.sheet.specs.declared.Sheet.{Sheet}
+use Rattle.sheet.specs.Sheets.{credit, gridOf}
+use Rattle.sheet.proofs.Cells.{credit-is}
 use Rattle.dayfile.specs.Table.{sameBook}
 use Rattle.dayfile.specs.Memory.{sized, sizedGrid, bookIn}
 use Rattle.dayfile.specs.declared.Book as Memory
@@ -19,7 +22,7 @@ use Rattle.dayfile.proofs.Used.{class-in, supply-in, cap-in}
 
 -- the same numbers in both
 abbrev SameNumbers : Memory.Book → Grid → Memory.Book → Grid → Type 0
-SameNumbers a caps b caps′ = SameLists a b × SameCells (a .seats) (a .windows) caps caps′
+SameNumbers a caps b caps′ = SameLists a b × SameCells (a .seats) (a .windows) (cell caps) (cell caps′)
 
 module _ (a : Memory.Book) (caps : Grid) (b : Memory.Book) (caps′ : Grid) where
   sized-same : (n m : ℕ) (xs ys : List ℕ) → n ≡ m → SameUpTo n xs ys → sized n xs ≡ sized m ys
@@ -61,8 +64,16 @@ module _ (a : Memory.Book) (caps : Grid) (b : Memory.Book) (caps′ : Grid) wher
       m = sym (windows-in a caps) ∙ ap (λ (c : Book). length (c .supplies)) e ∙ windows-in b caps′
 
   -- the test of the table
-  pub seen : (r : Bool) → ((r ≡ true) ↔ SameNumbers a caps b caps′) → r ≡ sameBook (bookIn a caps) (bookIn b caps′)
-  seen true h = sym (ap (sameBook (bookIn a caps)) (sym (one-book (h .0 refl))) ∙ same-itself (bookIn a caps))
-  seen false h =
+  decided : (r : Bool) → ((r ≡ true) ↔ SameNumbers a caps b caps′) → r ≡ sameBook (bookIn a caps) (bookIn b caps′)
+  decided true h = sym (ap (sameBook (bookIn a caps)) (sym (one-book (h .0 refl))) ∙ same-itself (bookIn a caps))
+  decided false h =
       sym (not-true (sameBook (bookIn a caps) (bookIn b caps′))
       (λ e. true≢false (sym (h .1 (same-numbers (same-book (bookIn a caps) (bookIn b caps′) e))))))
+
+-- the same with caps that are rows
+pub seen : (a : Memory.Book) (caps : Sheet) (b : Memory.Book) (caps′ : Sheet) (r : Bool) →
+    ((r ≡ true) ↔ (SameLists a b × SameCells (a .seats) (a .windows) (credit caps) (credit caps′))) →
+    r ≡ sameBook (bookIn a (gridOf caps)) (bookIn b (gridOf caps′))
+seen a caps b caps′ r h =
+    decided a (gridOf caps) b (gridOf caps′) r
+    (subst₂ (λ (S T : ℕ → ℕ → ℕ). (r ≡ true) ↔ (SameLists a b × SameCells (a .seats) (a .windows) S T)) (credit-is caps) (credit-is caps′) h)

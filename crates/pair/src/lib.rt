@@ -7,6 +7,7 @@ ghost use lib.ListN.{length};
 ghost use Rattle.fairness.specs.Leximin.{NoHigher, Higher};
 ghost use Rattle.model.specs.Book.{Grid};
 ghost use Rattle.model.specs.Fair.{profileOf};
+ghost use Rattle.sheet.specs.Sheets.{credit, gridOf};
 ghost use Rattle.dayfile.specs.Bounds.{Fit};
 ghost use Rattle.dayfile.specs.Table.{sameBook};
 ghost use Rattle.dayfile.specs.Memory.{bookIn, cellsIn};
@@ -15,7 +16,7 @@ use dayfile::Book;
 use instance::terms_of;
 use leximin::is_higher;
 use profile::profile;
-use sheet::Caps;
+use sheet::Sheet;
 
 // Whether the first n numbers of two arrays are the same.
 fn same(a: &[u16], b: &[u16], n: usize) -> bool
@@ -30,13 +31,25 @@ fn same(a: &[u16], b: &[u16], n: usize) -> bool
     true
 }
 
+// The same of two rows.
+fn same_row(a: [u16; 24], b: [u16; 24], n: usize) -> bool
+    requires { ⌜ n ≤ 24 ⌝ }
+    ensures { λ r. ⌜ ((r ≡ true) ↔ SameUpTo n a b) ⌝ }
+{
+    same(&a, &b, n)
+}
+
 // Whether two grids have the same cells, in their first seats and windows.
-fn same_cells(a: &Caps, b: &Caps, seats: usize, windows: usize) -> bool
+fn same_cells(a: Sheet, b: Sheet, seats: usize, windows: usize) -> bool
     requires { ⌜ (seats ≤ 32) × (windows ≤ 24) ⌝ }
-    ensures { λ r. ⌜ ((r ≡ true) ↔ SameCells seats windows (now (a .entry)) (now (b .entry))) ⌝ }
+    ensures { λ r. ⌜ ((r ≡ true) ↔ SameCells seats windows (credit a) (credit b)) ⌝ }
 {
     for i in 0..seats {
-        if !same(&a[i], &b[i], windows) {
+        let row = a.rows[i];
+        let cells = row.cells;
+        let other = b.rows[i];
+        let others = other.cells;
+        if !same_row(cells, others, windows) {
             return false;
         }
     }
@@ -63,13 +76,13 @@ fn same_lists(a: Book, b: Book) -> bool
     }
     let a_supplies = a.supplies;
     let b_supplies = b.supplies;
-    same(&a_supplies, &b_supplies, windows)
+    same_row(a_supplies, b_supplies, windows)
 }
 
 // Whether two books have the same numbers: classes, supplies, caps.
-pub fn same_book(a: Book, a_caps: &Caps, b: Book, b_caps: &Caps) -> bool
+pub fn same_book(a: Book, a_caps: Sheet, b: Book, b_caps: Sheet) -> bool
     requires { ⌜ (a .seats ≤ 32) × (a .windows ≤ 24) ⌝ }
-    ensures { λ r. ⌜ r ≡ sameBook (bookIn a (now («a_caps» .entry))) (bookIn b (now («b_caps» .entry))) ⌝ }
+    ensures { λ r. ⌜ r ≡ sameBook (bookIn a (gridOf «a_caps»)) (bookIn b (gridOf «b_caps»)) ⌝ }
 {
     if !same_lists(a, b) {
         return false;
@@ -78,11 +91,11 @@ pub fn same_book(a: Book, a_caps: &Caps, b: Book, b_caps: &Caps) -> bool
 }
 
 // Whether the second of two sheets of a book has the higher list.
-pub fn second_is_higher(book: Book, first: &Caps, second: &Caps) -> bool
+pub fn second_is_higher(book: Book, first: Sheet, second: Sheet) -> bool
     requires { ⌜ ((caps : Grid) × Fit (bookIn book caps)) ⌝ }
     ensures { λ r. ⌜ ((caps : Grid) → (r ≡ true)
-        ↔ Higher NoHigher (profileOf (bookIn book caps) (cellsIn book (now (first .entry))))
-        (profileOf (bookIn book caps) (cellsIn book (now (second .entry))))) ⌝ }
+        ↔ Higher NoHigher (profileOf (bookIn book caps) (cellsIn book (gridOf first)))
+        (profileOf (bookIn book caps) (cellsIn book (gridOf second)))) ⌝ }
 {
     let terms = terms_of(book);
     let one = profile(terms, first);

@@ -27,26 +27,18 @@ returns-3 c = (
   λ h. absurd (true≢false (sym (c .before .same .ensures .1 (h .classes)) ∙ not-true _ (c .if3 .taken))),
 )
 
-same-requires-2 : tie.Need-same-requires-2
-same-requires-2 c κs =
-    let start = c .before .before .before .before .before .before .before .before .before .before .before .before .before .before in
-    let a : length (start .args .a .supplies) ≡ 24 = search needs in
-    let b : length (start .args .b .supplies) ≡ 24 = search needs in
-    (omega (arith, start .pre .1), omega (arith, start .pre .1))
-
 returns-4 : tie.Need-returns-4
 returns-4 c =
-    let third = c .before .before .before .before .before in (
+    let third = c .before .before .before in (
       λ e. record {
         seats = third .before .before .before .before .before .before .before .before .if1 .left;
         windows = third .before .before .before .before .before .before .if2 .left;
         classes = third .before .same .ensures .0 (not-false _ (third .if3 .left));
-        supplies = c .same2 .ensures .0 e;
+        supplies = c .same-row .ensures .0 e;
       },
-      λ h. c .same2 .ensures .1 (h .supplies),
+      λ h. c .same-row .ensures .1 (h .supplies),
     )
 
 pub same-lists-spec : {M : Type 1} → statement M
 same-lists-spec =
-    tie.close (tie.spec returns returns-2 (λ c. search needs) (λ c. search needs) same-requires returns-3 (λ c. search needs)
-    (λ c. search needs) same-requires-2 returns-4)
+    tie.close (tie.spec returns returns-2 (λ c. search needs) (λ c. search needs) same-requires returns-3 (λ c κs. search needs) returns-4)

@@ -14,9 +14,9 @@ is-higher-requires c κs =
 returns : tie.Need-returns
 returns c caps =
     let terms = c .before .before .before .terms-of .ensures in
-    let entry = c .before .before .before .before in
-    let first = list-is (entry .args .book) _ caps (terms .1 caps) _ _ (c .before .before .profile .ensures) in
-    let second = list-is (entry .args .book) _ caps (terms .1 caps) _ _ (c .before .profile2 .ensures) in
+    let start = c .before .before .before .before in
+    let first = list-is (start .args .book) _ caps (terms .1 caps) (start .args .first) _ (c .before .before .profile .ensures) in
+    let second = list-is (start .args .book) _ caps (terms .1 caps) (start .args .second) _ (c .before .profile2 .ensures) in
     rw (← first, ← second) (c .is-higher .ensures)
 
 pub second-is-higher-spec : {M : Type 1} → statement M
