@@ -92,7 +92,8 @@ module _ (f g : List ℕ) where
       compared (Refused file number at) h =
           rw (h .1 .0, h .1 .1 .0, h .1 .1 .1)
           record {
-            defined = defined-refusal (refuse 17 0) (rest ∙ ap (λ (o : Option ℕ). orRefuse 17 o none) (sym (fails 0 refl (h .0)))) refl refl;
+            defined = defined-refusal (refuse 17 0)
+                (rest ∙ ap (λ (o : Option ℕ). orRefuse 17 o none) (sym (fails 0 refl (h .0)))) refl refl;
             whose = rw (passed, passed′) refl;
           }
       compared First h =

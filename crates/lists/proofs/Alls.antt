@@ -1,5 +1,5 @@
--- Properties of all numbers below another, and of all elements of a list, by index; and the elements that an array has in use, the first n of it, each made into
--- another by f, as the moves of a path are.
+-- Properties of all numbers below another, and of all elements of a list, by index; and the elements that an array has in use, the first
+-- n of it, each made into another by f, as the moves of a path are.
 use mathlib.Core.List.{List, [], _∷_, map}
 use mathlib.Core.Path.{_≡_, sym, ap, subst, _∙_}
 use Prim.Native.Nat.{ℕ, zero, suc, _+_, _≤_, _<_}

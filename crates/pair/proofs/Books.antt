@@ -76,4 +76,5 @@ pub seen : (a : Memory.Book) (caps : Sheet) (b : Memory.Book) (caps′ : Sheet) 
     r ≡ sameBook (bookIn a (gridOf caps)) (bookIn b (gridOf caps′))
 seen a caps b caps′ r h =
     decided a (gridOf caps) b (gridOf caps′) r
-    (subst₂ (λ (S T : ℕ → ℕ → ℕ). (r ≡ true) ↔ (SameLists a b × SameCells (a .seats) (a .windows) S T)) (credit-is caps) (credit-is caps′) h)
+    (subst₂ (λ (S T : ℕ → ℕ → ℕ). (r ≡ true) ↔ (SameLists a b × SameCells (a .seats) (a .windows) S T))
+    (credit-is caps) (credit-is caps′) h)

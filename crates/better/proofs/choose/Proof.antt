@@ -16,16 +16,20 @@ returns-2 c =
 
 compare-requires : tie.Need-compare-requires
 compare-requires c κs =
-    let one = c .before .before .before .before in
+    let read2 = c .before .before .before in
+    let one = read2 .before in
+    let read = one .before .before .before in
     fit _ _ (passes (one .before .before .check-lawful .ensures) (one .enum-told .given .1))
-    (passes (c .before .before .check-lawful2 .ensures) (c .enum-told2 .given .1)) _ _ (one .before .before .before .read .ensures) (c .before .before .before .read2 .ensures)
+    (passes (c .before .before .check-lawful2 .ensures) (c .enum-told2 .given .1)) _ _ (read .read .ensures) (read2 .read2 .ensures)
 
 returns-3 : tie.Need-returns-3
 returns-3 c =
     let two = c .before in
-    let one = two .before .before .before .before in
+    let read2 = two .before .before .before in
+    let one = read2 .before in
+    let read = one .before .before .before in
     days-compared _ _ (passes (one .before .before .check-lawful .ensures) (one .enum-told .given .1))
-    (passes (two .before .before .check-lawful2 .ensures) (two .enum-told2 .given .1)) _ _ (one .before .before .before .read .ensures) (two .before .before .before .read2 .ensures)
+    (passes (two .before .before .check-lawful2 .ensures) (two .enum-told2 .given .1)) _ _ (read .read .ensures) (read2 .read2 .ensures)
     _ (c .compare .ensures)
 
 pub choose-spec : {M : Type 1} → statement M

@@ -8,7 +8,8 @@ use Rattle.better.proofs.sheet_body.Statement.{statement}
 use Rattle.better.proofs.sheet_body.Tie as tie
 
 -- the body lies within the file
-inside : (c : tie.After-sheet-span) → c .sheet-span .result .start + c .sheet-span .result .length ≤ length (now (c .before .before .args .file))
+inside : (c : tie.After-sheet-span) →
+    c .sheet-span .result .start + c .sheet-span .result .length ≤ length (now (c .before .before .args .file))
 inside c = span-inside _ _ (c .before .before .pre) (c .sheet-span .ensures)
 
 add-end : tie.Need-add-end

@@ -9,11 +9,12 @@ use Rattle.credits.proofs.credits_better.Tie as tie
 returns : tie.Need-returns
 returns c =
     let choose = c .before .before .before .choose in
+    let first = c .before .before .sheet-span .ensures in
+    let second = c .before .sheet-span2 .ensures in
     record {
       answers = choose .result;
       meets = choose .ensures;
-      says = c .of .ensures
-          ∙ ap₂ (λ (a b : Span). betterNumbers a b (choose .result)) (c .before .before .sheet-span .ensures) (c .before .sheet-span2 .ensures);
+      says = c .of .ensures ∙ ap₂ (λ (a b : Span). betterNumbers a b (choose .result)) first second;
     }
 
 pub credits-better-spec : {M : Type 1} → statement M

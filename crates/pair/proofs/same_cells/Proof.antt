@@ -25,7 +25,9 @@ returns c =
     )
 
 loop-again : tie.Need-loop-again Inv-loop μ-loop
-loop-again c = up-to (c .before .before .before .before .before .before .before .loop .inv) (c .before .same-row .ensures .0 (not-false _ (c .if1 .left)))
+loop-again c =
+    let l = c .before .before .before .before .before .before .before .loop in
+    up-to (l .inv) (c .before .same-row .ensures .0 (not-false _ (c .if1 .left)))
 
 returns-2 : tie.Need-returns-2 Inv-loop μ-loop
 returns-2 c = (λ e i l. c .before .loop .inv i (omega (arith, c .loop-test .left)), λ h. refl)
