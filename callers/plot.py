@@ -106,6 +106,7 @@ def main():
     texts = {
         "plan": table(tables["plan"], "plan", two + ["other method", "max flow"]),
         "mark": table(tables["mark"], "mark", two),
+        "better": table(tables["better"], "better", two),
         "file": table(tables["file"], "the longest file", two),
         "least": table(tables["least"], "one seat, one window", two),
         "seats": table(tables["seats"], "seats", two + ["other method"]),

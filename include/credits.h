@@ -1,8 +1,9 @@
 /* credits.h: libcredits shares out message credits fairly by trading window.
  *
  * A day file holds a book (the seats' classes, the windows' supplies, a cap for each seat in each window) and perhaps a sheet (credits
- * for each seat in each window). The calls read one, write one, mark its sheet, plan the fairest sheet, and list it as text. What each
- * call does is proved for every file, every book and every buffer; the contracts are in crates/credits/specs/Calls.antt.
+ * for each seat in each window). The calls read one, write one, mark its sheet, plan the fairest sheet, list it as text, and choose the
+ * better of two sheets of a book. What each call does is proved for every file, every book and every buffer; the contracts are in
+ * crates/credits/specs/Calls.antt.
  *
  * What a caller owes, for every call:
  *   - A pointer points to as many bytes as the length after it says. They may be read, and written where it is not const. With length 0
@@ -45,10 +46,11 @@ enum {
     CREDITS_REFUSED_CLASS = 10,         /* class not 1 to 8                                     that class */
     CREDITS_REFUSED_SUPPLY = 11,        /* supply above 4,095                                   that supply */
     CREDITS_REFUSED_CAP = 12,           /* cap above 4,095                                      that cap */
-    CREDITS_REFUSED_NO_SHEET = 13,      /* mark: no sheet                                       0 */
-    CREDITS_REFUSED_ABOVE_CAP = 14,     /* mark: cell above its cap                             that cell */
-    CREDITS_REFUSED_ABOVE_SUPPLY = 15,  /* mark: window's cells above its supply                that supply */
-    CREDITS_REFUSED_BUFFER = 16         /* the buffer is too short                              length needed */
+    CREDITS_REFUSED_NO_SHEET = 13,      /* mark, better: no sheet                               0 */
+    CREDITS_REFUSED_ABOVE_CAP = 14,     /* mark, better: cell above its cap                     that cell */
+    CREDITS_REFUSED_ABOVE_SUPPLY = 15,  /* mark, better: window's cells above its supply        that supply */
+    CREDITS_REFUSED_BUFFER = 16,        /* the buffer is too short                              length needed */
+    CREDITS_REFUSED_OTHER_BOOK = 17     /* better: class, supply or cap bodies differ           0 */
 };
 
 /* Marks. Tied and settled sheets pass. */
@@ -71,7 +73,8 @@ typedef struct {
     uint16_t sheet[CREDITS_SEATS][CREDITS_WINDOWS];
 } credits_book;
 
-/* In each result: refusal 0 and offset 0 where the call did its work. At a refusal the other fields are all 0. */
+/* In each result: refusal 0 and offset 0 where the call did its work. At a refusal the other fields are all 0, but for `file` of a
+ * credits_better_result, which then says whose refusal it is. */
 typedef struct {
     uint32_t refusal;
     size_t offset;
@@ -94,6 +97,14 @@ typedef struct {
     uint32_t moves;  /* marks 2 and 3: how many moves the chain has */
 } credits_mark_result;
 
+typedef struct {
+    uint32_t refusal;
+    size_t offset;
+    uint32_t file; /* the file that is chosen, 1 or 2; at a refusal the file that it is of, and 0 for refusal 17, which is of both */
+    size_t start;  /* where its sheet body starts in that file */
+    size_t length; /* and how many bytes it has */
+} credits_better_result;
+
 /* At a refusal no byte of a buffer changes. The bytes after what a call writes keep their values. */
 
 /* The book and the sheet of a day file. Refusals 1 to 12. */
@@ -112,6 +123,11 @@ credits_write_result credits_plan(const uint8_t *file, size_t file_len, uint8_t 
 /* A day file and its mark as text, to the front of `out`; there is no 0 byte at the end. For a file that credits_mark refuses the text is
  * "refused N at P". The only refusal is 16. */
 credits_write_result credits_listing(const uint8_t *file, size_t file_len, uint8_t *out, size_t out_len);
+
+/* Which of two sheets of one book is better: the file with the higher list, or the first where the lists are equal; and the part of that
+ * file which is its sheet body. A list holds the seats' levels (total divided by weight), lowest first, and the first place where two lists
+ * differ decides. Both files may be the same bytes in memory. Refusals 1 to 15 of the first file, then 1 to 15 of the second, then 17. */
+credits_better_result credits_better(const uint8_t *first, size_t first_len, const uint8_t *second, size_t second_len);
 
 #ifdef __cplusplus
 }

@@ -1,4 +1,4 @@
-/* Plans, marks, reads, writes and lists day files by libcredits, and checks all that it sees.
+/* Plans, marks, reads, writes, lists and compares day files by libcredits, and checks all that it sees.
  *
  *     example FOLDER       FOLDER is examples/ of this repository
  *
@@ -32,6 +32,11 @@ static_assert(offsetof(credits_mark_result, window) == 20, "window");
 static_assert(offsetof(credits_mark_result, seat) == 24, "seat");
 static_assert(offsetof(credits_mark_result, moves) == 28, "moves");
 static_assert(sizeof(credits_mark_result) == 32, "credits_mark_result");
+static_assert(offsetof(credits_better_result, offset) == 8, "offset of a better result");
+static_assert(offsetof(credits_better_result, file) == 16, "file");
+static_assert(offsetof(credits_better_result, start) == 24, "start");
+static_assert(offsetof(credits_better_result, length) == 32, "length of a better result");
+static_assert(sizeof(credits_better_result) == 40, "credits_better_result");
 
 static int checks = 0;
 
@@ -210,6 +215,63 @@ static void try_waste(const char *folder) {
     free(file.at);
 }
 
+/* ---- the better of two sheets */
+
+static credits_better_result better(bytes first, bytes second) {
+    return credits_better(first.at, first.length, second.at, second.length);
+}
+
+/* The sheet body is the last part of its file. */
+static int chosen(credits_better_result r, uint32_t number, bytes file) {
+    credits_book book = book_in(file);
+    size_t length = 2 * book.seats * book.windows;
+    return r.refusal == CREDITS_OK && r.offset == 0 && r.file == number && r.start == file.length - length && r.length == length;
+}
+
+static int turned_away(credits_better_result r, uint32_t number, size_t offset, uint32_t file) {
+    return r.refusal == number && r.offset == offset && r.file == file && r.start == 0 && r.length == 0;
+}
+
+/* No list is higher than that of the planned sheet, and a sheet that passes has the same one. */
+static void try_better(const char *folder, const char *name) {
+    bytes file = load(folder, name, ".day"), plan = planned(file), moves = block(CREDITS_MOVES_MAX);
+    credits_mark_result m = credits_mark(file.at, file.length, moves.at, moves.length);
+    if (m.refusal == CREDITS_REFUSED_NO_SHEET) {
+        CHECK(turned_away(better(file, plan), CREDITS_REFUSED_NO_SHEET, 0, 1));
+        CHECK(turned_away(better(plan, file), CREDITS_REFUSED_NO_SHEET, 0, 2));
+    } else {
+        int passes = m.mark == CREDITS_TIED || m.mark == CREDITS_SETTLED;
+        CHECK(passes ? chosen(better(file, plan), 1, file) : chosen(better(file, plan), 2, plan));
+        CHECK(chosen(better(plan, file), 1, plan) && chosen(better(file, file), 1, file));
+        printf("%-11s its sheet or the planned one: %s\n", name, passes ? "the first of them" : "the planned one");
+    }
+    free(moves.at);
+    free(plan.at);
+    free(file.at);
+}
+
+/* All lines of the first file come before those of the second, and that the books differ comes last. */
+static void try_refused_pairs(const char *folder) {
+    bytes k08 = load(folder, "k08", ".day"), k12 = load(folder, "k12", ".day"), k11 = load(folder, "k11", ".day");
+    bytes nothing = {NULL, 0}, one = copy(k08.at, 1);
+    credits_book book = book_in(k08);
+    book.sheet[0][0] = 1; /* window 1, whose supply is at 32, has one credit, and seat 2 has it */
+    bytes above = written(book);
+    CHECK(turned_away(better(above, one), CREDITS_REFUSED_ABOVE_SUPPLY, 32, 1));
+    CHECK(turned_away(better(one, above), CREDITS_REFUSED_SHORT, 1, 1));
+    CHECK(turned_away(better(k08, one), CREDITS_REFUSED_SHORT, 1, 2));
+    CHECK(turned_away(better(nothing, nothing), CREDITS_REFUSED_SHORT, 0, 1));
+    CHECK(turned_away(better(k12, above), CREDITS_REFUSED_ABOVE_SUPPLY, 32, 2));
+    CHECK(turned_away(better(k08, k11), CREDITS_REFUSED_NO_SHEET, 0, 2));
+    CHECK(turned_away(better(k08, k12), CREDITS_REFUSED_OTHER_BOOK, 0, 0));
+    printf("pairs refused: the first file's refusals, then the second's, then that the books differ\n");
+    free(above.at);
+    free(one.at);
+    free(k11.at);
+    free(k12.at);
+    free(k08.at);
+}
+
 /* ---- refusals, which leave every buffer as it was */
 
 static int refused(credits_write_result r, uint32_t number, size_t offset) {
@@ -297,6 +359,8 @@ int main(int argc, char **argv) {
     for (size_t i = 0; i < sizeof examples / sizeof examples[0]; i++) try_example(folder, examples[i]);
     try_chain(folder);
     try_waste(folder);
+    for (size_t i = 0; i < sizeof examples / sizeof examples[0]; i++) try_better(folder, examples[i]);
+    try_refused_pairs(folder);
     try_refused_files(folder);
     try_short_buffers(folder);
     try_books(folder);

@@ -1,4 +1,4 @@
-"""libcredits for Python, by ctypes: read, write, mark, plan and list day files. include/credits.h says what each call does."""
+"""libcredits for Python, by ctypes: read, write, mark, plan, list and compare day files. include/credits.h says what each call does."""
 import ctypes
 import os
 from typing import NamedTuple
@@ -33,6 +33,11 @@ class MarkResult(ctypes.Structure):
                 ('window', ctypes.c_uint32), ('seat', ctypes.c_uint32), ('moves', ctypes.c_uint32)]
 
 
+class BetterResult(ctypes.Structure):
+    _fields_ = [('refusal', ctypes.c_uint32), ('offset', ctypes.c_size_t), ('file', ctypes.c_uint32),
+                ('start', ctypes.c_size_t), ('length', ctypes.c_size_t)]
+
+
 def declare(path):
     """The library at a path, with the types of its calls."""
     library = ctypes.CDLL(path)
@@ -41,7 +46,7 @@ def declare(path):
     for name, arguments, result in (
             ('credits_read', given, ReadResult), ('credits_write', [Book] + lent, WriteResult),
             ('credits_mark', given + lent, MarkResult), ('credits_plan', given + lent, WriteResult),
-            ('credits_listing', given + lent, WriteResult)):
+            ('credits_listing', given + lent, WriteResult), ('credits_better', given + given, BetterResult)):
         call = getattr(library, name)
         call.argtypes, call.restype = arguments, result
     return library
@@ -52,11 +57,11 @@ LIBRARY = declare(os.environ.get('LIBCREDITS', os.path.join(HERE, '../../target/
 
 
 class Refused(Exception):
-    """A refusal: its number and its offset."""
+    """A refusal: its number and its offset. One by `better` has a file too: 1 or 2, or 0 where it is of both."""
 
-    def __init__(self, number, offset):
-        super().__init__(f'refused {number} at {offset}')
-        self.number, self.offset = number, offset
+    def __init__(self, number, offset, file=None):
+        super().__init__(f'refused {number} at {offset}' + (f' in file {file}' if file else ''))
+        self.number, self.offset, self.file = number, offset, file
 
 
 class Move(NamedTuple):
@@ -74,13 +79,19 @@ class Mark(NamedTuple):
     moves: list
 
 
+class Better(NamedTuple):
+    """The file that is chosen, 1 or 2, and its sheet body: not a copy, but a view of that part of the file."""
+    file: int
+    body: memoryview
+
+
 def buffer(length):
     return (ctypes.c_uint8 * length)()
 
 
 def accepted(result):
     if result.refusal != 0:
-        raise Refused(result.refusal, result.offset)
+        raise Refused(result.refusal, result.offset, getattr(result, 'file', None))
     return result
 
 
@@ -112,3 +123,9 @@ def listing(file):
     """A day file and its mark as text; for a file that cannot be marked, the line `refused N at P`."""
     out = buffer(LISTING_MAX)
     return bytes(out[:accepted(LIBRARY.credits_listing(file, len(file), out, LISTING_MAX)).length]).decode()
+
+
+def better(first, second):
+    """Of two day files of one book the one whose sheet has the higher list, and on equal lists the first."""
+    b = accepted(LIBRARY.credits_better(first, len(first), second, len(second)))
+    return Better(b.file, memoryview((first, second)[b.file - 1])[b.start:b.start + b.length])

@@ -1,4 +1,4 @@
-"""Plans, marks, reads, writes and lists the day files of a folder (examples/ of this repository), and checks all that it sees.
+"""Plans, marks, reads, writes, lists and compares the day files of a folder (examples/ of this repository), and checks all that it sees.
 
     python3 callers/python/example.py [FOLDER]
 """
@@ -11,11 +11,11 @@ FOLDER = pathlib.Path(sys.argv[1] if len(sys.argv) > 1 else pathlib.Path(__file_
 
 
 def refusal(call, *arguments):
-    """The number and the offset of the refusal that a call must answer."""
+    """The number and the offset of the refusal that a call must answer, and the file if there are two."""
     try:
         call(*arguments)
     except credits.Refused as r:
-        return r.number, r.offset
+        return (r.number, r.offset) if r.file is None else (r.number, r.offset, r.file)
     raise AssertionError('not refused')
 
 
@@ -54,6 +54,22 @@ def try_chain():
     print('k08 settled: totals', *totals, 'as planned')
 
 
+def try_better():
+    """Of a spoilt sheet and the planned one the planned is chosen; on equal lists the first."""
+    k04, k08, k11, k12 = ((FOLDER / f'{name}.day').read_bytes() for name in ('k04', 'k08', 'k11', 'k12'))
+    fair = credits.plan(k08)
+    for first, second, chosen in ((k08, fair, 2), (fair, k08, 1), (k08, k08, 1), (k04, credits.plan(k04), 1), (credits.plan(k04), k04, 1)):
+        file, body = credits.better(first, second)
+        assert file == chosen and body.obj is (first, second)[file - 1]
+        book = credits.read(body.obj)
+        cells = [cell for row in book.sheet[:book.seats] for cell in row[:book.windows]]
+        assert cells == [low + 256 * high for low, high in zip(body[::2], body[1::2])]
+    print('k08 and its plan, in either order: the plan; k04 and its plan: the first')
+    for first, second, refused in ((k11, b'', (13, 0, 1)), (k08, b'', (1, 0, 2)), (k08, k11, (13, 0, 2)), (k08, k12, (17, 0, 0))):
+        assert refusal(credits.better, first, second) == refused
+    print('pairs refused: the first file, the second, and another book')
+
+
 def try_refusals():
     k11 = (FOLDER / 'k11.day').read_bytes()
     for file, number, offset in ((b'', 1, 0), (k11[:-1], 6, 25), (k11 + b'\0', 6, 27)):
@@ -76,5 +92,6 @@ assert days
 for d in days:
     try_example(d)
 try_chain()
+try_better()
 try_refusals()
 print('Python: all checks passed')

@@ -4,9 +4,9 @@
 //!   bench worst [N]   looks N seconds (60) for books that take long to plan
 //!   bench stack       how much stack each call uses
 //!
-//! Columns: "library" is the proved library, "plain Rust" a version in plain Rust that does the same: for plan the same method
-//! step by step (bench/same_method.rs), for the other calls the version of reference.rs. "other method" is the planner of
-//! reference.rs and "max flow" a planner by maximum flow and bisection (bench/max_flow.rs).
+//! Columns: "library" is the proved library, "plain Rust" a version in plain Rust that does the same: for plan and better the same
+//! method step by step (bench/same_method.rs, bench/same_better.rs), for the other calls the version of reference.rs. "other method"
+//! is the planner of reference.rs and "max flow" a planner by maximum flow and bisection (bench/max_flow.rs).
 
 use std::fmt::Write;
 use std::hint::black_box;
@@ -18,6 +18,8 @@ mod rng;
 
 #[path = "bench/max_flow.rs"]
 mod max_flow;
+#[path = "bench/same_better.rs"]
+mod same_better;
 #[path = "bench/same_method.rs"]
 mod same_method;
 #[path = "bench/stack.rs"]
@@ -57,6 +59,7 @@ fn all_tables() {
     let mut csv = String::from("table,case,column,microseconds\n");
     plan_table(&mut csv);
     mark_table(&mut csv);
+    better_table(&mut csv);
     file_table(&mut csv);
     least_table(&mut csv);
     growth_table(&mut csv, "seats", "plan by seats, 24 windows", (1..=8).map(|step| (4 * step, (4 * step, 24))));
@@ -208,6 +211,41 @@ fn mark_table(csv: &mut String) {
     line(csv, "mark", "chain of 24 moves", &names, &times);
 }
 
+/// The two that choose between the sheets of two files.
+fn choosers<'a>(first: &'a [u8], second: &'a [u8]) -> Vec<Call<'a>> {
+    let call = |name, better: fn(&[u8], &[u8]) -> usize| {
+        Call::new(name, move || assert!(better(black_box(first), black_box(second)) > 0))
+    };
+    vec![
+        call("library", |first, second| credits::better(first, second).unwrap().body.len()),
+        call("plain Rust", |first, second| same_better::better(first, second).unwrap().length),
+    ]
+}
+
+/// Choosing between the sheets of two full files, with the first place where their lists differ.
+fn better_table(csv: &mut String) {
+    let names = names(&choosers(&[], &[]));
+    heading("better, 32 seats, 24 windows", &names);
+    type Hands = fn(&Book) -> [Sheet; 2];
+    let pairs: [(&str, Option<usize>, Hands); 3] = [
+        ("lists differ at the first place", Some(0), |book| [windows_alone(book, 0), planned(book)]),
+        ("equal lists: planned", None, |book| [planned(book); 2]),
+        ("equal lists: windows alone", None, |book| [windows_alone(book, 0); 2]),
+    ];
+    for (case, place, hands) in pairs {
+        let mut rng = Rng::new(13);
+        let mut times = Times::default();
+        for _ in 0..BOOKS {
+            let book = books::dense(&mut rng, 32, 24);
+            let [sheet, other] = hands(&book);
+            assert_eq!(same_better::difference(&book, &sheet, &other).map(|(place, _)| place), place);
+            let [first, second] = [sheet, other].map(|sheet| file_of(&book, Some(&sheet)));
+            times.add(side_by_side(&mut choosers(&first, &second), ROUNDS, 8));
+        }
+        line(csv, "better", case, &names, &times);
+    }
+}
+
 /// Reading and writing the longest file, with a full book.
 fn file_table(csv: &mut String) {
     let mut rng = Rng::new(13);
@@ -237,19 +275,21 @@ fn file_table(csv: &mut String) {
     line(csv, "file", "write", &names, &writing);
 }
 
-/// Planning and marking the smallest books: what a call costs that has next to nothing to do.
+/// Planning, marking and choosing with the smallest books: what a call costs that has next to nothing to do.
 fn least_table(csv: &mut String) {
     let mut rng = Rng::new(17);
-    let (mut planning, mut marking) = (Times::default(), Times::default());
+    let (mut planning, mut marking, mut choosing) = (Times::default(), Times::default(), Times::default());
     for _ in 0..BOOKS {
         let book = books::dense(&mut rng, 1, 1);
         let file = file_of(&book, None);
         planning.add(side_by_side(&mut planners(&file)[..2], ROUNDS, 256));
         let file = file_of(&book, Some(&planned(&book)));
         marking.add(side_by_side(&mut markers(&file), ROUNDS, 256));
+        choosing.add(side_by_side(&mut choosers(&file, &file.clone()), ROUNDS, 256));
     }
     let names = names(&markers(&[]));
     heading("one seat, one window", &names);
     line(csv, "least", "plan", &names, &planning);
     line(csv, "least", "mark", &names, &marking);
+    line(csv, "least", "better", &names, &choosing);
 }

@@ -113,11 +113,20 @@ pub fn spoilt(rng: &mut Rng, book: &Book, sheet: &Sheet, moves: usize, most: usi
     for _ in 0..moves {
         let (window, giver, taker) = (rng.below(book.windows), rng.below(book.seats), rng.below(book.seats));
         if giver != taker {
-            let room = book.caps[taker][window] - sheet[taker][window];
-            let credits = room.min(sheet[giver][window]).min(rng.between(1, most) as u16);
-            sheet[giver][window] -= credits;
-            sheet[taker][window] += credits;
+            let credits = room(book, &sheet, window, giver, taker).min(rng.between(1, most) as u16);
+            hand_over(&mut sheet, window, giver, taker, credits);
         }
     }
     sheet
+}
+
+/// How many credits can go in a window from one seat to another.
+pub fn room(book: &Book, sheet: &Sheet, window: usize, giver: usize, taker: usize) -> u16 {
+    sheet[giver][window].min(book.caps[taker][window] - sheet[taker][window])
+}
+
+/// So many credits go in a window from one seat to another.
+pub fn hand_over(sheet: &mut Sheet, window: usize, giver: usize, taker: usize, credits: u16) {
+    sheet[giver][window] -= credits;
+    sheet[taker][window] += credits;
 }

@@ -1,6 +1,6 @@
 //! The library against the plain Rust version of reference.rs, on random and damaged files and books.
 //!
-//!   compare [N]   N files (200,000) through read, mark, plan and listing, and N books through write
+//!   compare [N]   N files (200,000) through read, mark, plan and listing, N books through write, and N pairs of files through better
 //!
 //! Output buffers of any length are compared whole, with bytes around them. What paper 01 leaves free is tested by its rules: a
 //! planned sheet is lawful, has the settled totals and gets mark 4; a chain has the right ends and the right number of moves, all
@@ -25,17 +25,20 @@ mod chain;
 mod files;
 #[path = "compare/memory.rs"]
 mod memory;
+#[path = "compare/pairs.rs"]
+mod pairs;
 
 use rng::Rng;
 
 const FILES: usize = 200_000;
 
-/// What was met so far: refusals by number and marks by number.
+/// What was met so far: refusals and marks by number, and what came of pairs.
 #[derive(Default)]
 pub struct Seen {
-    refusals: [usize; 17],
+    refusals: [usize; 18],
     marks: [usize; 5],
     longest_chain: u32,
+    pairs: [usize; pairs::OUTCOMES.len()],
 }
 
 fn main() -> ExitCode {
@@ -48,22 +51,30 @@ fn main() -> ExitCode {
             return ExitCode::FAILURE;
         }
         if turn % number.div_ceil(10) == 0 {
-            println!("{turn} of {number} files and as many books: no difference");
+            println!("{turn} of {number} files and as many books and pairs: no difference");
         }
     }
     println!("refusals by number: {:?}", &seen.refusals[1..]);
     println!("marks by number: {:?}, the longest chain with {} moves", &seen.marks[1..], seen.longest_chain);
-    println!("compare: {number} files and {number} books, no difference");
+    let pairs: Vec<String> =
+        pairs::OUTCOMES.iter().zip(seen.pairs).map(|(name, count)| format!("{name} {count}")).collect();
+    println!("pairs: {}", pairs.join(", "));
+    println!("compare: {number} files, {number} books and {number} pairs, no difference");
     ExitCode::SUCCESS
 }
 
-/// One file through the calls that take a file, and one book through the writer.
+/// One file through the calls that take a file, one book through the writer, and one pair through the call that takes two.
 fn one_turn(rng: &mut Rng, seen: &mut Seen) -> Result<(), String> {
     let file = files::draw(rng);
     calls::all(rng, seen, &file).map_err(|difference| keep("differs.day", &file, difference))?;
     let book = memory::draw(rng);
     memory::write(rng, seen, &book)
-        .map_err(|difference| keep("differs.txt", format!("{book:#?}").as_bytes(), difference))
+        .map_err(|difference| keep("differs.txt", format!("{book:#?}").as_bytes(), difference))?;
+    let pair = pairs::draw(rng);
+    pairs::better(seen, &pair).map_err(|difference| {
+        let difference = keep("differs_first.day", &pair[0], difference);
+        keep("differs_second.day", &pair[1], difference)
+    })
 }
 
 /// Keeps a file, and says where it is.

@@ -40,7 +40,7 @@ pub struct Book {
     pub sheet: Option<Grid>,
 }
 
-/// Why a call turns its input away; the numbers are those of paper 01's table.
+/// Why a call turns its input away; the numbers are those of paper 01's table, which paper 02 goes on with.
 #[derive(Clone, Copy, Debug, PartialEq, Eq)]
 #[repr(u32)]
 pub enum Reason {
@@ -60,6 +60,7 @@ pub enum Reason {
     CellAboveCap = 14,
     WindowAboveSupply = 15,
     ShortBuffer = 16,
+    OtherBook = 17,
 }
 
 /// A reason and the offset that belongs to it. No byte of any buffer has changed.
@@ -67,6 +68,27 @@ pub enum Reason {
 pub struct Refusal {
     pub reason: Reason,
     pub offset: usize,
+}
+
+/// One of the two files that [`better`] takes.
+#[derive(Clone, Copy, Debug, PartialEq, Eq)]
+pub enum Which {
+    First,
+    Second,
+}
+
+/// The better of two sheets: the file that it is in, and its body, which is a part of that file.
+#[derive(Clone, Copy, Debug, PartialEq, Eq)]
+pub struct Better<'a> {
+    pub file: Which,
+    pub body: &'a [u8],
+}
+
+/// A refusal with the file that it is of; without one it is of both.
+#[derive(Clone, Copy, Debug, PartialEq, Eq)]
+pub struct PairRefusal {
+    pub file: Option<Which>,
+    pub refusal: Refusal,
 }
 
 /// One credit in a window, from a giver to a taker, all counted from 1.
@@ -91,7 +113,7 @@ pub enum Mark {
 }
 
 impl Reason {
-    const ALL: [Reason; 16] = [
+    const ALL: [Reason; 17] = [
         Reason::UnderTwoBytes,
         Reason::NumberOfEntries,
         Reason::EndsWithinContents,
@@ -108,9 +130,10 @@ impl Reason {
         Reason::CellAboveCap,
         Reason::WindowAboveSupply,
         Reason::ShortBuffer,
+        Reason::OtherBook,
     ];
 
-    /// The number in paper 01's table.
+    /// The number in the table.
     pub fn number(self) -> u32 {
         self as u32
     }
@@ -123,6 +146,19 @@ impl fmt::Display for Refusal {
 }
 
 impl std::error::Error for Refusal {}
+
+impl fmt::Display for PairRefusal {
+    fn fmt(&self, f: &mut fmt::Formatter) -> fmt::Result {
+        let files = match self.file {
+            Some(Which::First) => "first file",
+            Some(Which::Second) => "second file",
+            None => "both files",
+        };
+        write!(f, "{files}: {}", self.refusal)
+    }
+}
+
+impl std::error::Error for PairRefusal {}
 
 impl Mark {
     /// Marks 3 and 4 pass: the sheet's list is the highest of its book.
@@ -184,6 +220,15 @@ pub fn plan(file: &[u8], out: &mut [u8]) -> Result<usize, Refusal> {
 /// A file that is turned away has a text too, so a short buffer is the only refusal.
 pub fn listing(file: &[u8], out: &mut [u8]) -> Result<usize, Refusal> {
     length(raw::listing(file, out))
+}
+
+/// Chooses of two day files of one book the one whose sheet has the higher list, and on equal lists the first.
+pub fn better<'a>(first: &'a [u8], second: &'a [u8]) -> Result<Better<'a>, PairRefusal> {
+    let result = raw::better(first, second);
+    let (which, file) = if result.file == 1 { (Which::First, first) } else { (Which::Second, second) };
+    unless_refused(result.refusal, result.offset)
+        .map_err(|refusal| PairRefusal { file: (result.file != 0).then_some(which), refusal })?;
+    Ok(Better { file: which, body: &file[result.start..][..result.length] })
 }
 
 /// `Err` for every number but 0.

@@ -1,10 +1,12 @@
-//! A plain Rust version of the library, written from paper 01 alone and sharing no line with the proved code.
+//! A plain Rust version of the library, written from papers 01 and 02 alone and sharing no line with the proved code.
 //! It serves as a second opinion on the proved library.
 //!
 //! Seats and windows count from 0 inside and from 1 in files, results and listings.
 //! Tests: `rustc -O --edition 2021 --test reference.rs && ./reference`.
 #![allow(dead_code, unused_imports)]
 
+#[path = "reference/better.rs"]
+mod better;
 #[path = "reference/day_file.rs"]
 mod day_file;
 #[path = "reference/exchange.rs"]
@@ -23,6 +25,7 @@ mod brute_force;
 #[path = "reference/tests.rs"]
 mod tests;
 
+pub use better::{better, choose, Better, PairRefusal};
 pub use day_file::{read, write, Layout};
 pub use listing::listing;
 pub use marker::{feasible, mark, Marked};
@@ -66,7 +69,7 @@ impl Book {
     }
 }
 
-/// Why a file, a book or an output buffer is turned away: number and offset of paper 01's table.
+/// Why a file, a book or an output buffer is turned away: number and offset of paper 01's table, which paper 02 goes on with.
 #[derive(Clone, Copy, Debug, PartialEq, Eq)]
 pub struct Refusal {
     pub number: u32,

@@ -17,8 +17,8 @@ struct Task {
     out: Vec<u8>,
 }
 
-const CALLS: [(&str, extern "C" fn(&mut Task)); 5] =
-    [("read", read), ("write", write), ("mark", mark), ("plan", plan), ("listing", listing)];
+const CALLS: [(&str, extern "C" fn(&mut Task)); 6] =
+    [("read", read), ("write", write), ("mark", mark), ("plan", plan), ("listing", listing), ("better", better)];
 
 extern "C" fn read(task: &mut Task) {
     assert_eq!(credits::raw::read(&task.file).refusal, 0);
@@ -34,6 +34,9 @@ extern "C" fn plan(task: &mut Task) {
 }
 extern "C" fn listing(task: &mut Task) {
     assert_eq!(credits::raw::listing(&task.file, &mut task.out).refusal, 0);
+}
+extern "C" fn better(task: &mut Task) {
+    assert_eq!(credits::raw::better(&task.file, &task.file).refusal, 0);
 }
 
 /// The most that each call uses on full files with and without a chain, its argument or result by value included.

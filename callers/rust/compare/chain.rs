@@ -1,5 +1,6 @@
 //! What holds of every written chain, by the rules of paper 01.
 
+use super::books::hand_over;
 use super::reference::{Book, Sheet, WEIGHTS};
 
 /// A move in three bytes: window, giver and taker, counted from 1.
@@ -33,9 +34,7 @@ pub fn check(book: &Book, sheet: &Sheet, mark: u32, chain: &[Bytes], right: &[By
         if !possible(book, sheet, m) || !possible(book, &after, m) {
             return wrong("a move that is not possible");
         }
-        let [window, giver, taker] = m.map(|place| place as usize - 1);
-        after[giver][window] -= 1;
-        after[taker][window] += 1;
+        play(&mut after, m);
     }
     let (list, list_before) = (list(book, &after), list(book, sheet));
     let fits = if mark == 2 { list > list_before } else { list == list_before };
@@ -44,6 +43,12 @@ pub fn check(book: &Book, sheet: &Sheet, mark: u32, chain: &[Bytes], right: &[By
     } else {
         wrong("the wrong list after it")
     }
+}
+
+/// Plays a move that is possible.
+pub fn play(sheet: &mut Sheet, m: &Bytes) {
+    let [window, giver, taker] = m.map(|place| place as usize - 1);
+    hand_over(sheet, window, giver, taker, 1);
 }
 
 fn possible(book: &Book, sheet: &Sheet, m: &Bytes) -> bool {
@@ -58,7 +63,7 @@ pub fn totals(book: &Book, sheet: &Sheet) -> Vec<u32> {
 }
 
 /// The levels, lowest first, all times 120, which is a multiple of every weight.
-fn list(book: &Book, sheet: &Sheet) -> Vec<u32> {
+pub fn list(book: &Book, sheet: &Sheet) -> Vec<u32> {
     let weight = |class: u16| WEIGHTS[class as usize - 1] as u32;
     let levels = totals(book, sheet).into_iter().zip(book.classes).map(|(total, class)| total * 120 / weight(class));
     let mut levels: Vec<u32> = levels.collect();

@@ -7,7 +7,7 @@ use super::rng::Rng;
 /// A file on which the shortest chain has 24 moves, the most there are.
 const LADDER: &[u8] = include_bytes!("../../../examples/full-ladder.day");
 
-const NO_CREDITS: Sheet = [[0; WINDOWS]; SEATS];
+pub const NO_CREDITS: Sheet = [[0; WINDOWS]; SEATS];
 
 /// Values at which something changes.
 const EDGES: [u16; 16] = [0, 1, 2, 3, 4, 5, 8, 9, 24, 26, 48, 50, 64, 66, 4095, 4096];
@@ -16,7 +16,10 @@ pub fn draw(rng: &mut Rng) -> Vec<u8> {
     match rng.below(12) {
         0 => noise(rng),
         1..=3 => parts(rng),
-        4 | 5 => damaged(rng),
+        4 | 5 => {
+            let file = accepted(rng);
+            damaged(rng, file)
+        }
         _ => accepted(rng),
     }
 }
@@ -45,7 +48,7 @@ pub fn book(rng: &mut Rng) -> Book {
 }
 
 /// A sheet as one may hand it in.
-fn sheet(rng: &mut Rng, book: &Book) -> Sheet {
+pub fn sheet(rng: &mut Rng, book: &Book) -> Sheet {
     let first = rng.below(book.seats);
     match rng.below(12) {
         0 => planned(book),
@@ -62,7 +65,7 @@ fn sheet(rng: &mut Rng, book: &Book) -> Sheet {
 }
 
 /// Some cells get any number, mostly a lower one: the sheet is wasteful, or not lawful.
-fn with_other_cells(rng: &mut Rng, book: &Book, sheet: &Sheet) -> Sheet {
+pub fn with_other_cells(rng: &mut Rng, book: &Book, sheet: &Sheet) -> Sheet {
     let mut sheet = *sheet;
     for _ in 0..rng.between(1, 5) {
         let (seat, window) = (rng.below(book.seats), rng.below(book.windows));
@@ -83,9 +86,8 @@ fn accepted(rng: &mut Rng) -> Vec<u8> {
     file_of(&book, sheet.as_ref())
 }
 
-/// An accepted file with bytes flipped, fields changed, its end cut off or grown.
-fn damaged(rng: &mut Rng) -> Vec<u8> {
-    let mut file = accepted(rng);
+/// A file with bytes flipped, fields changed, its end cut off or grown.
+pub fn damaged(rng: &mut Rng, mut file: Vec<u8>) -> Vec<u8> {
     for _ in 0..rng.between(1, 3) {
         let length = file.len();
         if length < 2 {

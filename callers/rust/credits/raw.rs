@@ -45,12 +45,24 @@ pub struct WriteResult {
     pub length: usize,
 }
 
+/// The file that is chosen, 1 or 2, and where in it the sheet body lies. At a refusal the file that it is of, 0 where it is of both.
+#[derive(Clone, Copy, Debug, PartialEq, Eq)]
+#[repr(C)]
+pub struct BetterResult {
+    pub refusal: u32,
+    pub offset: usize,
+    pub file: u32,
+    pub start: usize,
+    pub length: usize,
+}
+
 // The sizes that include/credits.h gives these structs on a 64-bit machine.
 const _: () = assert!(size_of::<Book>() == 3208 && size_of::<ReadResult>() == 3224);
 const _: () = assert!(size_of::<MarkResult>() == 32 && size_of::<WriteResult>() == 24);
+const _: () = assert!(size_of::<BetterResult>() == 40);
 
 mod c {
-    use super::{Book, MarkResult, ReadResult, WriteResult};
+    use super::{BetterResult, Book, MarkResult, ReadResult, WriteResult};
 
     extern "C" {
         pub fn credits_read(file: *const u8, file_len: usize) -> ReadResult;
@@ -58,6 +70,8 @@ mod c {
         pub fn credits_mark(file: *const u8, file_len: usize, moves: *mut u8, moves_len: usize) -> MarkResult;
         pub fn credits_plan(file: *const u8, file_len: usize, out: *mut u8, out_len: usize) -> WriteResult;
         pub fn credits_listing(file: *const u8, file_len: usize, out: *mut u8, out_len: usize) -> WriteResult;
+        pub fn credits_better(first: *const u8, first_len: usize, second: *const u8, second_len: usize)
+            -> BetterResult;
     }
 }
 
@@ -79,4 +93,8 @@ pub fn plan(file: &[u8], out: &mut [u8]) -> WriteResult {
 
 pub fn listing(file: &[u8], out: &mut [u8]) -> WriteResult {
     unsafe { c::credits_listing(file.as_ptr(), file.len(), out.as_mut_ptr(), out.len()) }
+}
+
+pub fn better(first: &[u8], second: &[u8]) -> BetterResult {
+    unsafe { c::credits_better(first.as_ptr(), first.len(), second.as_ptr(), second.len()) }
 }

@@ -161,6 +161,56 @@ fn empty_input_and_empty_buffers() {
     assert_eq!((nothing.caps, nothing.sheet), (grid(&[]), grid(&[])));
 }
 
+/// The file that is chosen. The body must be the caller's own bytes, the last of that file.
+fn chosen(first: &[u8], second: &[u8]) -> Which {
+    let Better { file, body } = better(first, second).unwrap();
+    let bytes = if file == Which::First { first } else { second };
+    let book = read(bytes).unwrap();
+    let start = bytes.len() - 2 * book.seats * book.windows;
+    assert_eq!(body.as_ptr_range(), bytes[start..].as_ptr_range());
+    file
+}
+
+#[test]
+fn the_better_of_two_sheets() {
+    let spoilt = file_of(&k8(K8_SHEET));
+    let fair = planned(&spoilt);
+    assert_eq!(chosen(&spoilt, &fair), Which::Second);
+    assert_eq!(chosen(&fair, &spoilt), Which::First);
+    assert_eq!(chosen(&spoilt, &spoilt), Which::First);
+    let [k3, k4] = [[2, 1], [1, 2]].map(|[a, b]| file_of(&book(&[3], &[&[3], &[3]], Some(&[&[a], &[b]]))));
+    assert_eq!((chosen(&k3, &k4), chosen(&k4, &k3)), (Which::First, Which::First));
+    let mut weighted = book(&[4], &[&[4], &[4]], Some(&[&[1], &[3]]));
+    weighted.classes[1] = 2;
+    let k6 = file_of(&weighted);
+    assert_eq!(chosen(&k6, &planned(&k6)), Which::Second);
+}
+
+/// The refusal of a pair of files.
+fn pair_refusal(first: &[u8], second: &[u8]) -> (Option<Which>, Reason, usize) {
+    let PairRefusal { file, refusal } = better(first, second).unwrap_err();
+    (file, refusal.reason, refusal.offset)
+}
+
+#[test]
+fn pairs_are_refused_first_file_first() {
+    let file = file_of(&k8(K8_SHEET));
+    let above_supply = file_of(&k8(Some(&[&[1, 0], &[1, 2], &[0, 3]])));
+    let other_book = file_of(&Book { supplies: book(&[1, 4], &[], None).supplies, ..k8(K8_SHEET) });
+    let (first, second) = (Some(Which::First), Some(Which::Second));
+    assert_eq!(pair_refusal(&[], &[]), (first, Reason::UnderTwoBytes, 0));
+    assert_eq!(pair_refusal(&above_supply, &[4]), (first, Reason::WindowAboveSupply, 32));
+    assert_eq!(pair_refusal(&file, &[4]), (second, Reason::UnderTwoBytes, 1));
+    assert_eq!(pair_refusal(&K11, &above_supply), (first, Reason::NoSheet, 0));
+    assert_eq!(pair_refusal(&other_book, &above_supply), (second, Reason::WindowAboveSupply, 32));
+    assert_eq!(pair_refusal(&file, &other_book), (None, Reason::OtherBook, 0));
+    let texts = [(&[][..], &file[..]), (&file, &[]), (&file, &other_book)];
+    let texts = texts.map(|(first, second)| better(first, second).unwrap_err().to_string());
+    assert_eq!(texts, ["first file: refused 1 at 0", "second file: refused 1 at 0", "both files: refused 17 at 0"]);
+    let result = raw::better(&file, &K11);
+    assert_eq!((result.refusal, result.file, result.start, result.length), (13, 2, 0, 0));
+}
+
 #[test]
 fn calls_side_by_side() {
     let file = file_of(&k8(K8_SHEET));
@@ -170,6 +220,7 @@ fn calls_side_by_side() {
             assert_eq!(planned(&file), expected);
             assert_eq!(mark(&expected), Ok(Mark::Settled));
             assert!(!mark(&file).unwrap().passes());
+            assert_eq!(better(&file, &expected).unwrap().file, Which::Second);
         }
     };
     std::thread::scope(|scope| (0..4).for_each(|_| drop(scope.spawn(work))));

@@ -4,6 +4,7 @@
 use super::exchange::Move;
 use super::marker::mark_sheet;
 use super::planner::plan_sheet;
+use super::tests::file_of;
 use super::*;
 
 #[path = "../rng.rs"]
@@ -190,4 +191,22 @@ fn every_sheet_of_small_books() {
     }
     println!("{books} books; sheets with mark 1 to 4: {:?}", &marks[1..]);
     assert!(marks[1..].iter().all(|&count| count > 1000));
+}
+
+#[test]
+fn the_better_of_pairs_of_sheets() {
+    let mut rng = Rng::new(2);
+    let mut orders = [0; 3];
+    for _ in 0..20_000 {
+        let book = small_book(&mut rng);
+        let Some(sheets) = feasible_sheets(&book) else { continue };
+        let pair = [0; 2].map(|_| sheets[rng.below(sheets.len())]);
+        let [list, other] = pair.map(|sheet| profile(&book, &sheet));
+        let [first, second] = pair.map(|sheet| file_of(&book, Some(&sheet)));
+        let chosen = better(&first, &second).map(|chosen| chosen.file);
+        assert_eq!(chosen, Ok(if list < other { 2 } else { 1 }));
+        orders[(list.cmp(&other) as i8 + 1) as usize] += 1;
+    }
+    println!("first list lower, equal, higher: {orders:?}");
+    assert!(orders.iter().all(|&count| count > 1000));
 }

@@ -18,14 +18,20 @@ pub struct Marked {
 /// Marks the sheet of a day file and writes the moves of marks 2 and 3 to the front of `moves`.
 pub fn mark(file: &[u8], moves: &mut [u8]) -> Result<Marked, Refusal> {
     let (book, sheet) = read(file)?;
-    let sheet = sheet.ok_or(Refusal { number: 13, offset: 0 })?;
-    feasible(&book, &sheet)?;
+    let sheet = handed_in(&book, &sheet)?;
     refuse_if(moves.len() < MOVES_LENGTH, 16, MOVES_LENGTH)?;
-    let (marked, path) = mark_sheet(&book, &sheet);
+    let (marked, path) = mark_sheet(&book, sheet);
     for (m, out) in path.iter().zip(moves.chunks_exact_mut(3)) {
         out.copy_from_slice(&[m.window + 1, m.giver + 1, m.taker + 1]);
     }
     Ok(marked)
+}
+
+/// Refusals 13 to 15: the sheet must be there, and feasible.
+pub fn handed_in<'a>(book: &Book, sheet: &'a Option<Sheet>) -> Result<&'a Sheet, Refusal> {
+    let sheet = sheet.as_ref().ok_or(Refusal { number: 13, offset: 0 })?;
+    feasible(book, sheet)?;
+    Ok(sheet)
 }
 
 /// Refusals 14 and 15: is the sheet feasible? (paper 01: lawful)

@@ -2,6 +2,9 @@
 
 use super::*;
 
+#[path = "better_tests.rs"]
+mod better_tests;
+
 /// A book of small parts; rows are seats.
 fn book(classes: &[u16], supplies: &[u16], caps: &[&[u16]]) -> Book {
     let mut book = Book::empty(classes.len(), supplies.len());
@@ -19,7 +22,7 @@ fn grid(rows: &[&[u16]]) -> Grid {
     grid
 }
 
-fn file_of(book: &Book, sheet: Option<&Sheet>) -> Vec<u8> {
+pub(super) fn file_of(book: &Book, sheet: Option<&Sheet>) -> Vec<u8> {
     let mut out = [0; 3210];
     let length = write(book, sheet, &mut out).unwrap();
     out[..length].to_vec()

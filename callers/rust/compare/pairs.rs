@@ -1,0 +1,229 @@
+//! Pairs of day files, and the call that chooses between their sheets.
+
+use super::books::{file_of, full_caps, hand_over, planned, room, spoilt};
+use super::calls::same;
+use super::chain::{list, moves, play};
+use super::credits::raw;
+use super::files::{self, NO_CREDITS};
+use super::reference::{self, feasible, Book, PairRefusal, Sheet, MOST_CREDITS, MOVES_LENGTH, SEATS, WEIGHTS, WINDOWS};
+use super::rng::Rng;
+use super::Seen;
+
+/// The first file and the second.
+pub type Pair = [Vec<u8>; 2];
+
+/// A book and a lawful sheet of it.
+type Day = (Book, Sheet);
+
+/// What may come of a pair: the file of a refusal has its number as place, then come the orders of the lists.
+pub const OUTCOMES: [&str; 6] =
+    ["books differ", "first refused", "second refused", "first list lower", "equal lists", "first list higher"];
+
+pub fn draw(rng: &mut Rng) -> Pair {
+    if rng.once_in(12) {
+        let file = files::draw(rng);
+        return [file.clone(), file];
+    }
+    let mut days = match rng.below(16) {
+        0 => cut_in_two_ways(rng),
+        1 | 2 => like_seats(rng),
+        3 | 4 => levels_dealt(rng),
+        5..=7 => {
+            let day = any_day(rng);
+            [day.clone(), other_book(rng, day)]
+        }
+        _ => {
+            let (book, sheet) = any_day(rng);
+            // Not every way leads to another sheet, so some are tried.
+            let other = (0..8).map(|_| other_sheet(rng, &book, &sheet)).find(|other| *other != sheet);
+            [(book.clone(), sheet), (book, other.unwrap_or(sheet))]
+        }
+    };
+    if rng.once_in(2) {
+        days.swap(0, 1);
+    }
+    // Faults come together, so that the refusals of two files often meet.
+    let one_in = if rng.once_in(4) { 2 } else { 50 };
+    days.map(|(book, sheet)| handed_in(rng, one_in, &book, &sheet))
+}
+
+/// The day's file; at times without its sheet, with other cells, damaged, or any file at all.
+fn handed_in(rng: &mut Rng, one_in: usize, book: &Book, sheet: &Sheet) -> Vec<u8> {
+    if !rng.once_in(one_in) {
+        return file_of(book, Some(sheet));
+    }
+    match rng.below(4) {
+        0 => file_of(book, None),
+        1 => file_of(book, Some(&files::with_other_cells(rng, book, sheet))),
+        2 => files::damaged(rng, file_of(book, Some(sheet))),
+        _ => files::draw(rng),
+    }
+}
+
+fn any_day(rng: &mut Rng) -> Day {
+    let book = files::book(rng);
+    let sheet = lawful(rng, &book);
+    (book, sheet)
+}
+
+fn lawful(rng: &mut Rng, book: &Book) -> Sheet {
+    loop {
+        let sheet = files::sheet(rng, book);
+        if feasible(book, &sheet).is_ok() {
+            return sheet;
+        }
+    }
+}
+
+/// Another sheet of the book: any, the planned one, a chain or a credit away, or with the same totals.
+fn other_sheet(rng: &mut Rng, book: &Book, sheet: &Sheet) -> Sheet {
+    match rng.below(6) {
+        0 => lawful(rng, book),
+        1 => planned(book),
+        2 => after_chain(book, sheet),
+        3 => spoilt(rng, book, sheet, 1, 1),
+        4 => one_credit_less(rng, sheet),
+        _ => same_totals(rng, book, sheet),
+    }
+}
+
+/// The sheet after the marker's chain, if there is one.
+fn after_chain(book: &Book, sheet: &Sheet) -> Sheet {
+    let mut chain = [0; MOVES_LENGTH];
+    let marked = reference::mark(&file_of(book, Some(sheet)), &mut chain).expect("a lawful sheet");
+    let mut after = *sheet;
+    moves(&chain[..3 * marked.moves as usize]).iter().for_each(|m| play(&mut after, m));
+    after
+}
+
+fn one_credit_less(rng: &mut Rng, sheet: &Sheet) -> Sheet {
+    let mut sheet = *sheet;
+    let mut held: Vec<&mut u16> = sheet.iter_mut().flatten().filter(|cell| **cell > 0).collect();
+    let place = rng.below(held.len().max(1));
+    if let Some(cell) = held.get_mut(place) {
+        **cell -= 1;
+    }
+    sheet
+}
+
+/// Pairs of seats exchange as many credits in one window as in another, where there is room.
+fn same_totals(rng: &mut Rng, book: &Book, sheet: &Sheet) -> Sheet {
+    let mut sheet = *sheet;
+    for _ in 0..30 {
+        let (seat, other) = (rng.below(book.seats), rng.below(book.seats));
+        let (there, back) = (rng.below(book.windows), rng.below(book.windows));
+        let most = room(book, &sheet, there, seat, other).min(room(book, &sheet, back, other, seat));
+        let credits = most.min(rng.between(1, 40) as u16);
+        hand_over(&mut sheet, there, seat, other, credits);
+        hand_over(&mut sheet, back, other, seat, credits);
+    }
+    sheet
+}
+
+/// Two seats of one class and the same caps, the other way round in the other sheet.
+fn like_seats(rng: &mut Rng) -> [Day; 2] {
+    let mut book = files::book(rng);
+    let (seat, other) = (rng.below(book.seats), rng.below(book.seats));
+    book.classes[other] = book.classes[seat];
+    book.caps[other] = book.caps[seat];
+    let sheet = lawful(rng, &book);
+    let mut swapped = sheet;
+    swapped.swap(seat, other);
+    [(book.clone(), sheet), (book, swapped)]
+}
+
+/// The same whole levels dealt out to other seats, whose totals differ where their weights do; at times a credit is missing.
+fn levels_dealt(rng: &mut Rng) -> [Day; 2] {
+    let (seats, windows) = files::size(rng);
+    let mut book = full_caps(rng, seats, windows);
+    book.supplies[..windows].fill(MOST_CREDITS);
+    let mut levels: Vec<u16> = (0..seats).map(|_| rng.below(4) as u16).collect();
+    let sheets = [0; 2].map(|_| {
+        let mut sheet = NO_CREDITS;
+        for seat in 0..seats {
+            sheet[seat][rng.below(windows)] = levels[seat] * WEIGHTS[book.classes[seat] as usize - 1];
+        }
+        levels.rotate_left(rng.below(seats));
+        sheet
+    });
+    let missing = rng.once_in(2);
+    sheets.map(|sheet| (book.clone(), if missing { one_credit_less(rng, &sheet) } else { sheet }))
+}
+
+/// Another book with the same sheet, as far as there is room for it: another number, a seat or a window more; or any day.
+fn other_book(rng: &mut Rng, (mut book, sheet): Day) -> Day {
+    let (seat, window) = (rng.below(book.seats), rng.below(book.windows));
+    let class = book.classes[seat] as usize;
+    match rng.below(6) {
+        0 => book.classes[seat] = ((class + rng.below(7)) % 8 + 1) as u16,
+        1 => book.supplies[window] = next_to(rng, book.supplies[window]),
+        2 => book.caps[seat][window] = next_to(rng, book.caps[seat][window]),
+        3 if book.seats < SEATS => {
+            book.classes[book.seats] = class as u16;
+            book.seats += 1;
+        }
+        4 if book.windows < WINDOWS => book.windows += 1,
+        _ => return any_day(rng),
+    }
+    (book, sheet)
+}
+
+/// One more, or at times one less, with which the sheet may not be lawful.
+fn next_to(rng: &mut Rng, credits: u16) -> u16 {
+    if credits == MOST_CREDITS || credits > 0 && rng.once_in(4) {
+        credits - 1
+    } else {
+        credits + 1
+    }
+}
+
+/// The same bytes from the classes on, cut up by other numbers of seats and windows.
+fn cut_in_two_ways(rng: &mut Rng) -> [Day; 2] {
+    let (number, other) = (rng.between(1, WINDOWS), rng.between(1, WINDOWS));
+    let numbers: Vec<u16> = (0..number + other + number * other).map(|_| rng.between(1, 8) as u16).collect();
+    [(number, other), (other, number)].map(|(seats, windows)| {
+        let mut book = Book::empty(seats, windows);
+        let (classes, rest) = numbers.split_at(seats);
+        let (supplies, caps) = rest.split_at(windows);
+        book.classes[..seats].copy_from_slice(classes);
+        book.supplies[..windows].copy_from_slice(supplies);
+        for (row, caps) in book.caps.iter_mut().zip(caps.chunks(windows)) {
+            row[..windows].copy_from_slice(caps);
+        }
+        (book, NO_CREDITS)
+    })
+}
+
+/// Every field of the result; and neither file changes, in one place of memory or in two.
+pub fn better(seen: &mut Seen, pair: &Pair) -> Result<(), String> {
+    let [first, second] = pair;
+    let before = pair.clone();
+    let library = raw::better(first, second);
+    let (refusal, offset, file, start, length) = match reference::better(first, second) {
+        Ok(chosen) => (0, 0, chosen.file, chosen.start, chosen.length),
+        Err(PairRefusal { file, refusal }) => (refusal.number, refusal.offset, file, 0, 0),
+    };
+    let plain = raw::BetterResult { refusal, offset, file, start, length };
+    same("better", library, plain)?;
+    if first == second {
+        same("better, of a file and itself", raw::better(first, first), plain)?;
+    }
+    same("better: the files", pair, &before)?;
+    seen.refusals[refusal as usize] += 1;
+    seen.pairs[if refusal == 0 { check_choice(pair, &library)? } else { file as usize }] += 1;
+    Ok(())
+}
+
+/// The body has the cells of that file's sheet, and the order of the lists gives that file. Gives the order's place.
+fn check_choice(pair: &Pair, chosen: &raw::BetterResult) -> Result<usize, String> {
+    let [Ok((book, Some(sheet))), Ok((_, Some(other)))] = [0, 1].map(|place| reference::read(&pair[place])) else {
+        return Err("better: not two files with sheets".to_string());
+    };
+    let (file, right) = [(&pair[0], &sheet), (&pair[1], &other)][chosen.file as usize - 1];
+    let cells = right[..book.seats].iter().flat_map(|row| &row[..book.windows]);
+    let body: Vec<u8> = cells.flat_map(|cell| cell.to_le_bytes()).collect();
+    same("better: the body", file.get(chosen.start..chosen.start + chosen.length), Some(&body))?;
+    let order = list(&book, &sheet).cmp(&list(&book, &other));
+    same("better: the file by its list", chosen.file, if order.is_lt() { 2 } else { 1 })?;
+    Ok((4 + order as i8) as usize)
+}

@@ -1,0 +1,66 @@
+//! The better of two sheets of one book (paper 02, E1).
+
+use std::cmp::Ordering;
+
+use super::marker::handed_in;
+use super::{read, refuse_if, Book, Layout, Refusal, Sheet, WEIGHTS};
+
+/// The file that is chosen, 1 or 2, and where in it the sheet body lies.
+#[derive(Clone, Copy, Debug, PartialEq, Eq)]
+pub struct Better {
+    pub file: u32,
+    pub start: usize,
+    pub length: usize,
+}
+
+/// A refusal with the file that it is of: 1 or 2, or 0 where it is of both.
+#[derive(Clone, Copy, Debug, PartialEq, Eq)]
+pub struct PairRefusal {
+    pub file: u32,
+    pub refusal: Refusal,
+}
+
+/// A seat's level as the fraction that it is: total and weight.
+type Level = (u32, u32);
+
+/// The sheet body of the file whose list is higher in dictionary order, and the first file's if the lists are equal.
+pub fn better(first: &[u8], second: &[u8]) -> Result<Better, PairRefusal> {
+    choose(first, second, |book, sheet, other| dictionary_order(&list(book, sheet), &list(book, other)).is_lt())
+}
+
+/// The second file's sheet body if its sheet is higher than the first's, and the first file's if not.
+pub fn choose(
+    first: &[u8],
+    second: &[u8],
+    is_higher: impl Fn(&Book, &Sheet, &Sheet) -> bool,
+) -> Result<Better, PairRefusal> {
+    let of = |file| move |refusal| PairRefusal { file, refusal };
+    let (book, sheet) = read(first).map_err(of(1))?;
+    let sheet = handed_in(&book, &sheet).map_err(of(1))?;
+    let (other_book, other) = read(second).map_err(of(2))?;
+    let other = handed_in(&other_book, &other).map_err(of(2))?;
+    refuse_if(book != other_book, 17, 0).map_err(of(0))?;
+    let file = if is_higher(&book, sheet, other) { 2 } else { 1 };
+    let layout = Layout::new(book.seats, book.windows, true);
+    Ok(Better { file, start: layout.sheet, length: layout.length - layout.sheet })
+}
+
+/// All levels, lowest first.
+fn list(book: &Book, sheet: &Sheet) -> Vec<Level> {
+    let total = |seat: usize| sheet[seat][..book.windows].iter().map(|&cell| cell as u32).sum();
+    let weight = |seat: usize| WEIGHTS[book.classes[seat] as usize - 1] as u32;
+    let mut levels: Vec<Level> = (0..book.seats).map(|seat| (total(seat), weight(seat))).collect();
+    levels.sort_by(compare);
+    levels
+}
+
+/// Fractions by cross products.
+fn compare(&(total, weight): &Level, &(other_total, other_weight): &Level) -> Ordering {
+    (total * other_weight).cmp(&(other_total * weight))
+}
+
+/// The first place where two lists differ decides; without one they are equal.
+fn dictionary_order(list: &[Level], other: &[Level]) -> Ordering {
+    let places = list.iter().zip(other).map(|(level, other)| compare(level, other));
+    places.fold(Ordering::Equal, Ordering::then)
+}
