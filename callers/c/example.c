@@ -136,7 +136,8 @@ static size_t total(const credits_book *book, size_t seat) {
 /* ---- every example: listed, written again, planned, and the plan listed */
 
 static const char *const examples[] = {"k01", "k02", "k03",  "k04",  "k05", "k06", "k07",        "k08",
-                                       "k09", "k10a", "k10b", "k11", "k12", "full-alone", "full-fixed", "full-ladder"};
+                                       "k09", "k10a", "k10b", "k11", "k12", "full-alone", "full-fixed", "full-ladder",
+                                       "pair-a", "pair-b"};
 
 static void try_example(const char *folder, const char *name) {
     bytes file = load(folder, name, ".day");

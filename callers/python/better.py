@@ -10,6 +10,7 @@ import os
 import sys
 
 TAKEN = 65536
+sys.dont_write_bytecode = True
 
 
 def load(name):

@@ -8,7 +8,7 @@ ghost use Rattle.dayfile.specs.Layout.{sheetBody};
 ghost use Rattle.dayfile.specs.Table.{firstOf, sheetLines, sameBook};
 ghost use Rattle.dayfile.specs.Memory.{cellsIn, dayBook};
 ghost use Rattle.better.specs.Choice.{Chooses, HandsBack};
-ghost use Rattle.choice.specs.Numbers.{spanOf};
+ghost use Rattle.choice.specs.Numbers.{spanOf, bodyOf};
 ghost use Rattle.better.specs.Steps.{Compared};
 use choice::Choice;
 use choice::Span;
@@ -79,6 +79,24 @@ pub fn sheet_span(file: &[u8]) -> Span
     Span {
         start: 0,
         length: 0,
+    }
+}
+
+// Where the body lies that is handed back; a file that is not chosen is not looked at.
+pub fn body_span(choice: Choice, first: &[u8], second: &[u8]) -> Span
+    ensures { λ r. ⌜ r ≡ bodyOf choice (now (first .entry)) (now (second .entry)) ⌝ }
+{
+    match choice {
+        Choice::Refused {
+            file: _,
+            number: _,
+            at: _,
+        } => Span {
+            start: 0,
+            length: 0,
+        },
+        Choice::First => sheet_span(first),
+        Choice::Second => sheet_span(second),
     }
 }
 

@@ -11,12 +11,15 @@ use Rattle.choice.specs.declared.BetterResult.{BetterResult}
 abbrev pub spanOf : List ℕ → Span
 spanOf f = record { start = sheetStart f; length = sheetSize f }
 
--- a file that is chosen, by its number
-abbrev pub chosenAs : ℕ → Span → BetterResult
-chosenAs file body = record { refusal = 0; offset = 0; file = file; start = body .start; length = body .length }
+-- where the sheet body lies that is handed back; at a refusal nowhere
+abbrev pub bodyOf : Choice → (f g : List ℕ) → Span
+bodyOf (Refused file number at) f g = record { start = 0; length = 0 }
+bodyOf First f g = spanOf f
+bodyOf Second f g = spanOf g
 
--- a choice, where the two bodies lie at a and b
-abbrev pub betterNumbers : (a b : Span) → Choice → BetterResult
-betterNumbers a b (Refused file number at) = record { refusal = number; offset = at; file = file; start = 0; length = 0 }
-betterNumbers a b First = chosenAs 1 a
-betterNumbers a b Second = chosenAs 2 b
+-- a choice, with where the body lies
+abbrev pub betterNumbers : Choice → Span → BetterResult
+betterNumbers (Refused file number at) body =
+    record { refusal = number; offset = at; file = file; start = body .start; length = body .length }
+betterNumbers First body = record { refusal = 0; offset = 0; file = 1; start = body .start; length = body .length }
+betterNumbers Second body = record { refusal = 0; offset = 0; file = 2; start = body .start; length = body .length }

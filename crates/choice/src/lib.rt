@@ -26,31 +26,33 @@ pub struct BetterResult {
 }
 
 impl BetterResult {
-    // A choice in numbers, where the two sheet bodies lie at these places.
-    pub fn of(choice: Choice, first: Span, second: Span) -> BetterResult
-        ensures { λ r. ⌜ r ≡ betterNumbers first second choice ⌝ }
+    // A choice in numbers, with where the body lies that goes with it.
+    pub fn of(choice: Choice, body: Span) -> BetterResult
+        ensures { λ r. ⌜ r ≡ betterNumbers choice body ⌝ }
     {
+        let start = body.start;
+        let length = body.length;
         match choice {
             Choice::Refused { file, number, at } => BetterResult {
                 refusal: number as u32,
                 offset: at,
                 file: file as u32,
-                start: 0,
-                length: 0,
+                start,
+                length,
             },
             Choice::First => BetterResult {
                 refusal: 0,
                 offset: 0,
                 file: 1,
-                start: first.start,
-                length: first.length,
+                start,
+                length,
             },
             Choice::Second => BetterResult {
                 refusal: 0,
                 offset: 0,
                 file: 2,
-                start: second.start,
-                length: second.length,
+                start,
+                length,
             },
         }
     }

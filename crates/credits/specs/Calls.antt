@@ -8,7 +8,7 @@ use Rattle.planner.specs.Planning.{Plans}
 use Rattle.listing.specs.Calls.{Lists}
 use Rattle.choice.specs.declared.BetterResult.{BetterResult}
 use Rattle.better.specs.Choice.{Chooses}
-use Rattle.choice.specs.Numbers.{spanOf, betterNumbers}
+use Rattle.choice.specs.Numbers.{bodyOf, betterNumbers}
 use Rattle.answers.specs.declared.CreditsBook.{CreditsBook}
 use Rattle.answers.specs.declared.ReadResult.{ReadResult}
 use Rattle.answers.specs.declared.MarkResult.{MarkResult}
@@ -43,4 +43,4 @@ ListsAs file before after r = InNumbers writeNumbers (Lists file before after) r
 
 -- credits_better
 abbrev pub BettersAs : (f g : List ℕ) → BetterResult → Type 0
-BettersAs f g r = InNumbers (betterNumbers (spanOf f) (spanOf g)) (Chooses f g) r
+BettersAs f g r = InNumbers (λ c. betterNumbers c (bodyOf c f g)) (Chooses f g) r

@@ -5,8 +5,8 @@ use answers::CreditsBook;
 use answers::MarkResult;
 use answers::ReadResult;
 use answers::WriteResult;
+use better::body_span;
 use better::choose;
-use better::sheet_span;
 use choice::BetterResult;
 
 // The book and the sheet of a file.
@@ -54,5 +54,6 @@ pub extern "C" fn credits_listing(file: &[u8], out: &mut [u8]) -> WriteResult
 pub extern "C" fn credits_better(first: &[u8], second: &[u8]) -> BetterResult
     ensures { λ r. ⌜ BettersAs (now (first .entry)) (now (second .entry)) r ⌝ }
 {
-    BetterResult::of(choose(first, second), sheet_span(first), sheet_span(second))
+    let choice = choose(first, second);
+    BetterResult::of(choice, body_span(choice, first, second))
 }

@@ -31,6 +31,6 @@ first =
       marker = λ file before after r h. h;
       planner = λ file before after r h. h;
       listing = λ file before after r h. h;
-      better = λ f g r h. h .defined;
+      better = λ f g r h. (h .defined, h .whose);
       handed-back = handed-back;
     }

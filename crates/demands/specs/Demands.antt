@@ -29,7 +29,7 @@ use Rattle.answers.specs.Answers.{told}
 use Rattle.marker.specs.Marking.{markedSheet, BufferAfter, Marks, movesIn, Passing}
 use Rattle.planner.specs.Planning.{Planned, Plans}
 use Rattle.choice.specs.declared.Choice.{Choice}
-use Rattle.better.specs.Choice.{Side, other, fileOn, listOf, Chosen, sideOf, Chooses, HandsBack}
+use Rattle.better.specs.Choice.{Side, other, fileOn, listOf, Chosen, sideOf, SaysWhose, Chooses, HandsBack}
 
 -- ---- Demand 1: each call gives a defined outcome or a numbered refusal, and a refusal changes no byte.
 
@@ -54,8 +54,9 @@ pub record Demand1 : Type 0 where
   -- the listing's is the text's length, and the text stands at the buffer's front
   pub listing : (file before after : List ℕ) (r : Written) → Lists file before after r →
       Defined (bufferLines (length before) listingMax) before after (written r) (Listed file before after)
-  -- the better of two has no buffer; its answer is the file that has the higher list, the first where the lists are equal
-  pub better : (f g : List ℕ) (r : Choice) → Chooses f g r → Defined (betterLines f g) [] [] (sideOf r) (Chosen f g)
+  -- the better of two has no buffer; its answer is the file that has the higher list, the first where the lists are equal; a refusal says
+  -- whose it is
+  pub better : (f g : List ℕ) (r : Choice) → Chooses f g r → Defined (betterLines f g) [] [] (sideOf r) (Chosen f g) × SaysWhose f g r
   -- and what it hands back is the sheet body of that file, to the byte, and nothing at a refusal
   pub handed-back : (f g part : List ℕ) → HandsBack f g part →
       ((q : Refusal) → FirstHolds (betterLines f g) q → part ≡ [])

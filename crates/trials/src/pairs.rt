@@ -3,8 +3,8 @@ use crate::calls::mark;
 use crate::calls::mark_of;
 use crate::tally::Tally;
 use crate::tally::count;
+use better::body_span;
 use better::choose;
-use better::sheet_span;
 use choice::BetterResult;
 use draws::damage::draw_hand_in;
 use draws::put_small;
@@ -65,7 +65,8 @@ fn wanted(first: &[u8], second: &[u8]) -> BetterResult {
 }
 
 fn answered(first: &[u8], second: &[u8]) -> BetterResult {
-    BetterResult::of(choose(first, second), sheet_span(first), sheet_span(second))
+    let choice = choose(first, second);
+    BetterResult::of(choice, body_span(choice, first, second))
 }
 
 fn same_numbers(a: BetterResult, b: BetterResult) -> bool {
