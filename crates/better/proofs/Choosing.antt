@@ -7,12 +7,12 @@ use mathlib.Core.Option.{Option, none, some}
 use Prim.Native.Nat.{ℕ}
 use native.Mathlib.Omega.{arith}
 use Rattle.fairness.specs.Leximin.{NoHigher, Higher}
-use Rattle.model.specs.Book.{Grid, seats, windows}
+use Rattle.model.specs.Book.{Grid}
 use Rattle.model.specs.Fair.{profileOf}
 use Rattle.dayfile.specs.Layout.{bookOf}
 use Rattle.dayfile.specs.Table.{refuse, orRefuse, firstOf, sheetLines, pairLines, betterLines, line17, sameBook}
 use Rattle.dayfile.specs.Outcome.{answer}
-use Rattle.dayfile.proofs.Pairs.{same-book}
+use Rattle.dayfile.proofs.Pairs.{SameParts, same-parts, parts-seats, parts-windows, parts-profile}
 use Rattle.dayfile.proofs.Held.{seats-in, windows-in}
 use Rattle.dayfile.proofs.Answers.{defined-refusal, defined-answer, answer-none}
 use Rattle.dayfile.proofs.Lines.{stop-in, on-after, none-parts}
@@ -36,14 +36,14 @@ first-not-second e = let z : _≡_ {A = ℕ} 0 1 = cc in omega arith
 module _ (d e : Day) where
   -- of one book: the lists of both sheets
   module _ (same : sameBook (dayBook d) (dayBook e) ≡ true) where
-    one : dayBook d ≡ dayBook e
-    one = same-book (dayBook d) (dayBook e) same
+    one : SameParts (dayBook d) (dayBook e)
+    one = same-parts (dayBook d) (dayBook e) same
 
     cells-same : (grid : Grid) → cellsIn (d .book) grid ≡ cellsIn (e .book) grid
     cells-same grid =
         ap₂ (λ (n m : ℕ). sizedGrid n m grid)
-        (sym (seats-in (d .book) (gridOf (d .caps))) ∙ ap seats one ∙ seats-in (e .book) (gridOf (e .caps)))
-        (sym (windows-in (d .book) (gridOf (d .caps))) ∙ ap windows one ∙ windows-in (e .book) (gridOf (e .caps)))
+        (sym (seats-in (d .book) (gridOf (d .caps))) ∙ parts-seats (dayBook d) (dayBook e) one ∙ seats-in (e .book) (gridOf (e .caps)))
+        (sym (windows-in (d .book) (gridOf (d .caps))) ∙ parts-windows (dayBook d) (dayBook e) one ∙ windows-in (e .book) (gridOf (e .caps)))
 
     pub lists-seen : {higher : Bool} →
         ((higher ≡ true)
@@ -52,7 +52,7 @@ module _ (d e : Day) where
         (higher ≡ true)
         ↔ Higher NoHigher (profileOf (dayBook d) (cellsIn (d .book) (gridOf (d .sheet))))
         (profileOf (dayBook e) (cellsIn (e .book) (gridOf (e .sheet))))
-    lists-seen is = rw (← one, ← cells-same _) is
+    lists-seen is = rw (← cells-same (gridOf (e .sheet)), ← parts-profile (dayBook d) (dayBook e) one _) is
 
 -- ---- two files
 

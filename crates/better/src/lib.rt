@@ -111,7 +111,7 @@ fn sheet_body(file: &[u8]) -> &[u8]
     &file[start..end]
 }
 
-// The sheet body of the better hand-in, as that part of the file it lies in; at a refusal the empty front of the first.
+// The sheet body of the better hand-in, as that part of the file it lies in; at a refusal an empty part.
 pub fn better<'a>(first: &'a [u8], second: &'a [u8]) -> &'a [u8]
     ensures { λ r. ⌜ HandsBack (now (first .entry)) (now (second .entry)) (now r) ⌝ }
 {

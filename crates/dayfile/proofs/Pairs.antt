@@ -1,66 +1,102 @@
--- Two files: where line 17 does not hold they tell of one book. Assumes nothing.
-use mathlib.Core.Path.{_≡_, refl, sym, ap, ap₂, _∙_}
-use mathlib.Core.Bool.{Bool, true, false, not, true≢false}
+-- Two files: where line 17 does not hold, what it compares is the same, and so is all that is said of sheets by it. Assumes nothing.
+use mathlib.Core.Path.{_≡_, refl, sym, ap, ap₂, subst, _∙_}
+use mathlib.Core.Bool.{Bool, true, true≢false}
 use mathlib.Core.List.{List, [], _∷_}
 use mathlib.Core.Option.{none}
 use Prim.Native.Nat.{ℕ}
 use lib.Dec.{eqb}
 use borrow.Author.Tests.{eqb-true, eq-eqb}
+use Rattle.fairness.specs.Leximin.{Level}
+use Rattle.model.specs.Book.{Book, Grid, SheetOf, Lawful, seats, windows}
+use Rattle.model.specs.Fair.{profileOf, HighestList}
 use Rattle.model.proofs.Tests.{and-true}
-use Rattle.model.specs.Book.{Book, Grid}
 use Rattle.dayfile.specs.Layout.{bookOf}
 use Rattle.dayfile.specs.Table.{alike, sameBook, line17}
 use Rattle.dayfile.proofs.Sound.{kept}
 
--- ---- lists that are alike by a test which tells equal from other
+-- ---- lists that are alike
 
-module _ {A : Type 0} (test : A → A → Bool) (only : (x y : A) → test x y ≡ true → x ≡ y) (itself : (x : A) → test x x ≡ true) where
-  pub alike-same : (xs ys : List A) → alike test xs ys ≡ true → xs ≡ ys
+module _ {A : Type 0} (test : A → A → Bool) where
+  pub alike-same : ((x y : A) → test x y ≡ true → x ≡ y) → (xs ys : List A) → alike test xs ys ≡ true → xs ≡ ys
   unfolding alike
-  alike-same [] [] e = refl
-  alike-same [] (y ∷ ys) e = absurd (true≢false (sym e))
-  alike-same (x ∷ xs) [] e = absurd (true≢false (sym e))
-  alike-same (x ∷ xs) (y ∷ ys) e =
+  alike-same only [] [] e = refl
+  alike-same only [] (y ∷ ys) e = absurd (true≢false (sym e))
+  alike-same only (x ∷ xs) [] e = absurd (true≢false (sym e))
+  alike-same only (x ∷ xs) (y ∷ ys) e =
       let both = and-true (test x y) (alike test xs ys) .0 e in
-      ap₂ (λ z zs. z ∷ zs) (only x y (both .0)) (alike-same xs ys (both .1))
+      ap₂ (λ z zs. z ∷ zs) (only x y (both .0)) (alike-same only xs ys (both .1))
 
-  pub alike-itself : (xs : List A) → alike test xs xs ≡ true
+  pub alike-itself : ((x : A) → test x x ≡ true) → (xs : List A) → alike test xs xs ≡ true
   unfolding alike
-  alike-itself [] = refl
-  alike-itself (x ∷ xs) = rw (itself x, alike-itself xs) refl
-
-eqb-only : (x y : ℕ) → eqb x y ≡ true → x ≡ y
-eqb-only x y e = eqb-true x y e
+  alike-itself itself [] = refl
+  alike-itself itself (x ∷ xs) = rw (itself x, alike-itself itself xs) refl
 
 eqb-itself : (x : ℕ) → eqb x x ≡ true
 eqb-itself x = eq-eqb x x refl
 
 -- ---- books
 
-pub same-book : (b c : Book) → sameBook b c ≡ true → b ≡ c
+-- what line 17 compares
+pub record SameParts (b c : Book) : Type 0 where
+  pub classes : b .classes ≡ c .classes
+  pub supplies : b .supplies ≡ c .supplies
+  pub caps : b .caps ≡ c .caps
+
+pub same-parts : (b c : Book) → sameBook b c ≡ true → SameParts b c
 unfolding sameBook
-same-book b c e =
+same-parts b c e =
     let first = and-true (alike eqb (b .classes) (c .classes)) _ .0 e in
     let rest = and-true (alike eqb (b .supplies) (c .supplies)) _ .0 (first .1) in
-    made (alike-same eqb eqb-only eqb-itself _ _ (first .0)) (alike-same eqb eqb-only eqb-itself _ _ (rest .0))
-    (alike-same (alike eqb) (alike-same eqb eqb-only eqb-itself) (alike-itself eqb eqb-only eqb-itself) _ _ (rest .1))
-  where
-    made : b .classes ≡ c .classes → b .supplies ≡ c .supplies → b .caps ≡ c .caps → b ≡ c
-    made p q r =
-        ap₂ (λ (x y : List ℕ). record { classes = x; supplies = y; caps = b .caps }) p q
-        ∙ ap (λ (z : Grid). record { classes = c .classes; supplies = c .supplies; caps = z }) r
+    record {
+      classes = alike-same eqb eqb-true _ _ (first .0);
+      supplies = alike-same eqb eqb-true _ _ (rest .0);
+      caps = alike-same (alike eqb) (alike-same eqb eqb-true) _ _ (rest .1);
+    }
 
-pub same-itself : (b : Book) → sameBook b b ≡ true
+pub parts-same : (b c : Book) → SameParts b c → sameBook b c ≡ true
 unfolding sameBook
-same-itself b =
+parts-same b c h =
     rw (
-      alike-itself eqb eqb-only eqb-itself (b .classes),
-      alike-itself eqb eqb-only eqb-itself (b .supplies),
-      alike-itself (alike eqb) (alike-same eqb eqb-only eqb-itself) (alike-itself eqb eqb-only eqb-itself) (b .caps),
+      h .classes,
+      h .supplies,
+      h .caps,
+      alike-itself eqb eqb-itself (c .classes),
+      alike-itself eqb eqb-itself (c .supplies),
+      alike-itself (alike eqb) (alike-itself eqb eqb-itself) (c .caps),
     ) refl
+
+-- ---- what is said of a sheet by these parts alone
+
+module _ (b c : Book) (h : SameParts b c) where
+  -- paper 01's books have no other parts
+  whole : b ≡ c
+  whole =
+      ap₂ (λ (x y : List ℕ). record { classes = x; supplies = y; caps = b .caps }) (h .classes) (h .supplies)
+      ∙ ap (λ (z : Grid). record { classes = c .classes; supplies = c .supplies; caps = z }) (h .caps)
+
+  pub parts-seats : seats b ≡ seats c
+  parts-seats = ap seats whole
+
+  pub parts-windows : windows b ≡ windows c
+  parts-windows = ap windows whole
+
+  pub parts-profile : (s : Grid) → profileOf b s ≡ profileOf c s
+  parts-profile s = ap (λ (x : Book). profileOf x s) whole
+
+  pub parts-sheet : (s : Grid) → SheetOf b s → SheetOf c s
+  parts-sheet s = subst (λ (x : Book). SheetOf x s) whole
+
+  pub parts-lawful : (s : Grid) → Lawful b s → Lawful c s
+  parts-lawful s = subst (λ (x : Book). Lawful x s) whole
+
+  pub parts-highest : (xs : List Level) → HighestList b xs → HighestList c xs
+  parts-highest xs = subst (λ (x : Book). HighestList x xs) whole
+
+pub parts-back : (b c : Book) → SameParts b c → SameParts c b
+parts-back b c h = record { classes = sym (h .classes); supplies = sym (h .supplies); caps = sym (h .caps) }
 
 -- ---- files
 
-pub one-book : (f g : List ℕ) → line17 f g ≡ none → bookOf f ≡ bookOf g
+pub one-book : (f g : List ℕ) → line17 f g ≡ none → SameParts (bookOf f) (bookOf g)
 unfolding line17
-one-book f g e = same-book (bookOf f) (bookOf g) (kept (sameBook (bookOf f) (bookOf g)) 0 e)
+one-book f g e = same-parts (bookOf f) (bookOf g) (kept (sameBook (bookOf f) (bookOf g)) 0 e)

@@ -26,14 +26,14 @@ use Rattle.dayfile.proofs.Rising.{Split, split-first, hit, split-hit, m
 module _ (f : List ℕ) (s : Sound f) where
   -- ---- every body has a whole number of fields
 
-  even : (e : ℕ) → e < count f → size f e ≡ 2 * (size f e / 2)
+  pub even : (e : ℕ) → e < count f → size f e ≡ 2 * (size f e / 2)
   even e h = let x = s .sizes e h in omega arith
 
   -- a body of kind k
   kind-size : (k e : ℕ) → e < count f → kind f e ≡ k → size f e / 2 ≡ bodyFields f k
   kind-size k e h q = let x = s .sizes e h in let y = ap (bodyFields f) q in omega arith
 
-  entry-size : (k e : ℕ) → entryOf f k ≡ some e → size f e / 2 ≡ bodyFields f k
+  pub entry-size : (k e : ℕ) → entryOf f k ≡ some e → size f e / 2 ≡ bodyFields f k
   unfolding entryOf
   entry-size k e q =
       let g = lowest-some (count f) (λ j. eqb (kind f j) k) e q in

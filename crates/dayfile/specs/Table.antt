@@ -146,7 +146,7 @@ alike test [] (y ∷ ys) = false
 alike test (x ∷ xs) [] = false
 alike test (x ∷ xs) (y ∷ ys) = test x y && alike test xs ys
 
--- two books have the same numbers
+-- two books have the same numbers in force: classes, supplies, caps
 unfoldable pub sameBook : Book → Book → Bool
 sameBook b c =
     alike eqb (b .classes) (c .classes)
@@ -227,7 +227,7 @@ movesRoom = 93
 unfoldable pub markLines : List ℕ → ℕ → List Line
 markLines f room = sheetLines f ++ bufferLines room movesRoom
 
--- the better of two, on two files: all of the first, then all of the second, and last what the two have together
+-- the better of two, on two files: all lines of the first, then all of the second, and last line 17, of both
 unfoldable pub betterLines : List ℕ → List ℕ → List Line
 betterLines f g = sheetLines f ++ (sheetLines g ++ pairLines f g)
 

@@ -4,7 +4,7 @@ use Rattle.demands.specs.Demands.{Demand1, Demand2, Demand3, BetterOfTwo
 use Rattle.demands.proofs.Outcomes.{first}
 use Rattle.demands.proofs.Documents.{lawful-frugal, wasteful-not-non-wasteful}
 use Rattle.demands.proofs.Files.{reads-back, same-bytes}
-use Rattle.demands.proofs.Better.{not-lower, passes, inside}
+use Rattle.demands.proofs.Better.{inside, same-sheet, not-lower, passes}
 use Rattle.demands.proofs.Fairness.{passes-exactly, passing-highest, fails, planned, planned-passes}
 
 -- each call gives a defined outcome or a numbered refusal, and a refusal changes no byte
@@ -36,4 +36,4 @@ demand-3 =
 
 -- of two hand-ins the one that is handed back has the higher list, and passes where either does
 pub better-of-two : BetterOfTwo
-better-of-two = record { not-lower = not-lower; passes = passes; inside = inside }
+better-of-two = record { inside = inside; same-sheet = same-sheet; not-lower = not-lower; passes = passes }

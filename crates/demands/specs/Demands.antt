@@ -18,7 +18,7 @@ use Rattle.dayfile.specs.declared.Day.{Day}
 use Rattle.dayfile.specs.declared.Reading.{Reading}
 use Rattle.dayfile.specs.declared.Written.{Written}
 use Rattle.dayfile.specs.declared.Written.the-variants.{Whole}
-use Rattle.dayfile.specs.Layout.{bookOf, sheetOf, sheetStart, sheetSize, sheetBody, Bytes}
+use Rattle.dayfile.specs.Layout.{bookOf, sheetOf, seatsIn, windowsIn, gridAt, sheetStart, sheetSize, sheetBody, Bytes}
 use Rattle.dayfile.specs.Table.{Refusal, readLines, writeLines, markLines, planLines, betterLines, bufferLines, plannedLength, movesRoom}
 use Rattle.dayfile.specs.Outcome.{answer, readFile, NoneHolds, FirstHolds, Defined}
 use Rattle.dayfile.specs.Memory.{dayBook, daySheet, fileIn, front, written, reading, Reads, WritesDay}
@@ -139,20 +139,22 @@ pub record Demand3 : Type 0 where
 
 -- ---- The better of two hand-ins (paper 02, E1), for its reader
 
--- one of two files is chosen
+-- one of two files is chosen, and its sheet body handed back: by demand 1 so it is where no line holds
 pub record ChosenOf (f g : List ℕ) (side : Side) : Type 0 where
-  pub choice : Choice
-  pub chooses : Chooses f g choice
-  pub answers : sideOf choice ≡ answer side
+  pub free : NoneHolds (betterLines f g)
+  pub chosen : Chosen f g side
 
 pub record BetterOfTwo : Type 0 where
+  -- what is handed back lies within its file, where the numbers for C say
+  pub inside : (f g : List ℕ) (side : Side) → ChosenOf f g side →
+      sheetStart (fileOn side f g) + sheetSize (fileOn side f g) ≤ length (fileOn side f g)
+  -- and is the sheet of that file: the same cells, read from its own bytes
+  pub same-sheet : (f g : List ℕ) (side : Side) → ChosenOf f g side →
+      gridAt (sheetBody (fileOn side f g)) 0 (seatsIn (fileOn side f g)) (windowsIn (fileOn side f g)) ≡ markedSheet (fileOn side f g)
   -- its list is not lower than the other's
   pub not-lower : (f g : List ℕ) (side : Side) → ChosenOf f g side →
       Higher NoHigher (listOf (fileOn side f g)) (listOf (fileOn (other side) f g)) → ⊥
-  -- where the marker passes either of the two, it passes the one that is chosen; each with a buffer that is long enough
+  -- and where the marker passes either of the two, it passes this one; each with a buffer that is long enough
   pub passes : (f g : List ℕ) (side either : Side) → ChosenOf f g side →
       (before after before′ after′ : List ℕ) (r r′ : Marking) → movesRoom ≤ length before → movesRoom ≤ length before′ →
       Marks (fileOn either f g) before after r → Passing (told r) → Marks (fileOn side f g) before′ after′ r′ → Passing (told r′)
-  -- and its sheet body lies within it, where the numbers for C say
-  pub inside : (f g : List ℕ) (side : Side) → ChosenOf f g side →
-      sheetStart (fileOn side f g) + sheetSize (fileOn side f g) ≤ length (fileOn side f g)

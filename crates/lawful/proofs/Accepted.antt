@@ -118,7 +118,7 @@ module _ (f : List ℕ) where
                 (rw (sheet-cell i j li lj, cap-cell i j li lj) at (h .within i j (rw seats-in li) (rw windows-in lj)))
 
   module _ (none-holds-here : NoneHolds (markerLines f)) where
-    has-entry : (e : ℕ) × (entryOf f 4 ≡ some e)
+    pub has-entry : (e : ℕ) × (entryOf f 4 ≡ some e)
     unfolding markerLines line13
     has-entry = some-of (entryOf f 4) (none-holds-here .0)
 

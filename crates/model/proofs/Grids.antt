@@ -4,7 +4,7 @@ use mathlib.Core.List.{List, []}
 use Prim.Native.Nat.{ℕ, _<_}
 use native.Mathlib.Nat.{le-trans, le-of-eq}
 use lib.ListN.{length, getD}
-use Rattle.fairness.specs.Instance.{Instance, Sheet, Feasible, placed, total}
+use Rattle.fairness.specs.Instance.{Instance, Sheet, Feasible, placed}
 use Rattle.fairness.specs.Leximin.{table, profile}
 use Rattle.fairness.proofs.Sums.{sum-eq}
 use Rattle.fairness.proofs.Alike.{Alike, alike-profile}
@@ -37,9 +37,6 @@ module _ (I : Instance) where
 
   pub agree-placed : (S T : Sheet) → Agree S T → (j : ℕ) → j < I .windows → placed I S j ≡ placed I T j
   agree-placed S T e j lj = sum-eq (I .seats) (λ i. S i j) (λ i. T i j) (λ i li. e i j li lj)
-
-  pub agree-total : (S T : Sheet) → Agree S T → (i : ℕ) → i < I .seats → total I S i ≡ total I T i
-  agree-total S T e i li = sum-eq (I .windows) (S i) (T i) (λ j lj. e i j li lj)
 
   pub agree-feasible : (S T : Sheet) → Agree S T → Feasible I S → Feasible I T
   agree-feasible S T e h =

@@ -1,5 +1,5 @@
 -- Two books in memory are the same exactly where their used entries are. Assumes nothing.
-use mathlib.Core.Path.{_≡_, refl, sym, ap, ap₂, subst₂, _∙_}
+use mathlib.Core.Path.{_≡_, refl, sym, ap, subst₂, _∙_}
 use mathlib.Core.Bool.{Bool, true, false, true≢false}
 use mathlib.Core.Logic.{_↔_}
 use mathlib.Core.List.{List, []}
@@ -16,7 +16,7 @@ use Rattle.dayfile.specs.Table.{sameBook}
 use Rattle.dayfile.specs.Memory.{sized, sizedGrid, bookIn}
 use Rattle.dayfile.specs.declared.Book as Memory
 use Rattle.pair.specs.Same.{SameUpTo, SameCells, SameLists}
-use Rattle.dayfile.proofs.Pairs.{same-book, same-itself}
+use Rattle.dayfile.proofs.Pairs.{SameParts, same-parts, parts-same}
 use Rattle.dayfile.proofs.Held.{seats-in, windows-in}
 use Rattle.dayfile.proofs.Used.{class-in, supply-in, cap-in}
 
@@ -36,39 +36,38 @@ module _ (a : Memory.Book) (caps : Grid) (b : Memory.Book) (caps′ : Grid) wher
       (λ i l. sized-same (a .windows) (b .windows) (getD caps i []) (getD caps′ i []) (h .0 .windows) (h .1 i l))
       ∙ ap (λ (k : ℕ). sizedGrid k (b .windows) caps′) (h .0 .seats)
 
-  pub one-book : SameNumbers a caps b caps′ → bookIn a caps ≡ bookIn b caps′
+  same-in : SameNumbers a caps b caps′ → SameParts (bookIn a caps) (bookIn b caps′)
   unfolding bookIn
-  one-book h =
-      ap₂ (λ (x y : List ℕ). record { classes = x; supplies = y; caps = sizedGrid (a .seats) (a .windows) caps })
-      (sized-same (a .seats) (b .seats) (a .classes) (b .classes) (h .0 .seats) (h .0 .classes))
-      (sized-same (a .windows) (b .windows) (a .supplies) (b .supplies) (h .0 .windows) (h .0 .supplies))
-      ∙ ap (λ (z : Grid). record { classes = sized (b .seats) (b .classes); supplies = sized (b .windows) (b .supplies); caps = z })
-      (grid-same h)
+  same-in h = record {
+    classes = sized-same (a .seats) (b .seats) (a .classes) (b .classes) (h .0 .seats) (h .0 .classes);
+    supplies = sized-same (a .windows) (b .windows) (a .supplies) (b .supplies) (h .0 .windows) (h .0 .supplies);
+    caps = grid-same h;
+  }
 
-  pub same-numbers : bookIn a caps ≡ bookIn b caps′ → SameNumbers a caps b caps′
-  same-numbers e = (
+  same-numbers : SameParts (bookIn a caps) (bookIn b caps′) → SameNumbers a caps b caps′
+  same-numbers h = (
     record {
       seats = n;
       windows = m;
-      classes = λ i l. sym (class-in a caps i l) ∙ ap (λ (c : Book). getD (c .classes) i 0) e ∙ class-in b caps′ i (omega (arith, n));
-      supplies = λ j l. sym (supply-in a caps j l) ∙ ap (λ (c : Book). getD (c .supplies) j 0) e ∙ supply-in b caps′ j (omega (arith, m));
+      classes = λ i l. sym (class-in a caps i l) ∙ ap (λ (xs : List ℕ). getD xs i 0) (h .classes) ∙ class-in b caps′ i (omega (arith, n));
+      supplies = λ j l. sym (supply-in a caps j l) ∙ ap (λ (xs : List ℕ). getD xs j 0) (h .supplies) ∙ supply-in b caps′ j (omega (arith, m));
     },
     λ i li j lj.
-        sym (cap-in a caps i j li lj) ∙ ap (λ (c : Book). cell (c .caps) i j) e ∙ cap-in b caps′ i j (omega (arith, n)) (omega (arith, m)),
+        sym (cap-in a caps i j li lj) ∙ ap (λ (g : Grid). cell g i j) (h .caps) ∙ cap-in b caps′ i j (omega (arith, n)) (omega (arith, m)),
   )
     where
       n : a .seats ≡ b .seats
-      n = sym (seats-in a caps) ∙ ap (λ (c : Book). length (c .classes)) e ∙ seats-in b caps′
+      n = sym (seats-in a caps) ∙ ap length (h .classes) ∙ seats-in b caps′
 
       m : a .windows ≡ b .windows
-      m = sym (windows-in a caps) ∙ ap (λ (c : Book). length (c .supplies)) e ∙ windows-in b caps′
+      m = sym (windows-in a caps) ∙ ap length (h .supplies) ∙ windows-in b caps′
 
   -- the test of the table
   decided : (r : Bool) → ((r ≡ true) ↔ SameNumbers a caps b caps′) → r ≡ sameBook (bookIn a caps) (bookIn b caps′)
-  decided true h = sym (ap (sameBook (bookIn a caps)) (sym (one-book (h .0 refl))) ∙ same-itself (bookIn a caps))
+  decided true h = sym (parts-same (bookIn a caps) (bookIn b caps′) (same-in (h .0 refl)))
   decided false h =
       sym (not-true (sameBook (bookIn a caps) (bookIn b caps′))
-      (λ e. true≢false (sym (h .1 (same-numbers (same-book (bookIn a caps) (bookIn b caps′) e))))))
+      (λ e. true≢false (sym (h .1 (same-numbers (same-parts (bookIn a caps) (bookIn b caps′) e))))))
 
 -- the same with caps that are rows
 pub seen : (a : Memory.Book) (caps : Sheet) (b : Memory.Book) (caps′ : Sheet) (r : Bool) →
