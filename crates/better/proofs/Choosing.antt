@@ -43,7 +43,8 @@ module _ (d e : Day) where
     cells-same grid =
         ap₂ (λ (n m : ℕ). sizedGrid n m grid)
         (sym (seats-in (d .book) (gridOf (d .caps))) ∙ parts-seats (dayBook d) (dayBook e) one ∙ seats-in (e .book) (gridOf (e .caps)))
-        (sym (windows-in (d .book) (gridOf (d .caps))) ∙ parts-windows (dayBook d) (dayBook e) one ∙ windows-in (e .book) (gridOf (e .caps)))
+        (sym (windows-in (d .book) (gridOf (d .caps))) ∙ parts-windows (dayBook d) (dayBook e) one
+        ∙ windows-in (e .book) (gridOf (e .caps)))
 
     pub lists-seen : {higher : Bool} →
         ((higher ≡ true)

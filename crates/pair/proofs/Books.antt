@@ -50,7 +50,8 @@ module _ (a : Memory.Book) (caps : Grid) (b : Memory.Book) (caps′ : Grid) wher
       seats = n;
       windows = m;
       classes = λ i l. sym (class-in a caps i l) ∙ ap (λ (xs : List ℕ). getD xs i 0) (h .classes) ∙ class-in b caps′ i (omega (arith, n));
-      supplies = λ j l. sym (supply-in a caps j l) ∙ ap (λ (xs : List ℕ). getD xs j 0) (h .supplies) ∙ supply-in b caps′ j (omega (arith, m));
+      supplies = λ j l.
+          sym (supply-in a caps j l) ∙ ap (λ (xs : List ℕ). getD xs j 0) (h .supplies) ∙ supply-in b caps′ j (omega (arith, m));
     },
     λ i li j lj.
         sym (cap-in a caps i j li lj) ∙ ap (λ (g : Grid). cell g i j) (h .caps) ∙ cap-in b caps′ i j (omega (arith, n)) (omega (arith, m)),

@@ -1,5 +1,4 @@
 // What each call of the library says, and its output buffer afterwards.
-ghost use Prim.Native.Nat.{_<_};
 use answers::Numbers;
 use choice::Choice;
 use dayfile::Book;
@@ -15,18 +14,17 @@ use say::say_refusal;
 use say::say_reply;
 use say::say_text;
 
-// A file of a line: its length is the number at a place, and its fields are the numbers after that.
-pub fn file_at(numbers: &[u8], place: usize) -> &[u8]
-    requires { ⌜ place < 65536 ⌝ }
-{
-    let length = numbers::wide(numbers, place);
-    numbers::bytes(numbers, place + 1, length)
+// The file of a line: its length is the second number, and its fields are the numbers after that.
+pub fn file_in(numbers: &[u8]) -> &[u8] {
+    let length = numbers::wide(numbers, 1);
+    numbers::bytes(numbers, 2, length)
 }
 
 // The second file of a line: all fields of the first stand before it.
 pub fn second_in(numbers: &[u8]) -> &[u8] {
-    let length = numbers::wide(numbers, 1);
-    file_at(numbers, 2 + (length + 1) / 2)
+    let place = 2 + (numbers::wide(numbers, 1) + 1) / 2;
+    let length = numbers::wide(numbers, place);
+    numbers::bytes(numbers, place + 1, length)
 }
 
 // A book in memory: whether it has a sheet, seats, windows, classes, supplies, caps, sheet.

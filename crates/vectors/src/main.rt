@@ -1,7 +1,7 @@
 // Runs the vectors that stand on standard input, a line each, and prints each line with what the library makes of it. Lines that start
 // with # say what the vectors below them show; the other forms are explained at the top of that file.
 use calls::day_in;
-use calls::file_at;
+use calls::file_in;
 use calls::second_in;
 use libc::STDIN_FILENO;
 ghost use Prim.Native.Nat.{_<_, _≤_};
@@ -16,7 +16,7 @@ const ROOM: usize = 4096;
 
 // A call's answer, by the word's first letter.
 fn answer(word: u8, numbers: &[u8], out: &mut [u8]) {
-    let file = file_at(numbers, 1);
+    let file = file_in(numbers);
     match word {
         b'r' => calls::read(file, out),
         b'w' => calls::write(day_in(numbers), out),
