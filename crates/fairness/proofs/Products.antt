@@ -7,11 +7,14 @@ use native.Mathlib.Omega.{arith}
 use lib.Dec.{eqb, ltb}
 use Rattle.fairness.specs.Exchange.{improves}
 
-pub product-fits : (height weight : ℕ) → height ≤ 200000 → weight ≤ 1000 → height * weight < 4294967296
-product-fits height weight h w = let p : height * weight ≤ 200000 * 1000 = mul-le-mul h w in omega arith
+pub product-fits : (height weight : ℕ) → height ≤ 2000000 → weight ≤ 1000 → height * weight < 4294967296
+product-fits height weight h w = let p : height * weight ≤ 2000000 * 1000 = mul-le-mul h w in omega arith
+
+pub moderate-fits : (height weight : ℕ) → height ≤ 200000 → weight ≤ 1000 → height * weight < 4294967296
+moderate-fits height weight h w = product-fits height weight (omega arith) w
 
 pub rest-fits : (x rest weight : ℕ) → rest ≡ x - 1 → x ≤ 200000 → weight ≤ 1000 → rest * weight < 4294967296
-rest-fits x rest weight e h w = product-fits rest weight (omega arith) w
+rest-fits x rest weight e h w = moderate-fits rest weight (omega arith) w
 
 pub improves-rest : (h w h′ w′ r : ℕ) → r ≡ h′ - 1 →
     improves h w h′ w′ ≡ (ltb (h * w′) (r * w) || (eqb (h * w′) (r * w) && ltb w w′))

@@ -1,8 +1,7 @@
 -- Which of two lists is higher shows at the first place where they differ. Assumes nothing.
 use mathlib.Core.Bool.{Bool, true, false}
 use mathlib.Core.Path.{_≡_, sym, _∙_}
-use Prim.Native.Nat.{ℕ, zero, suc, _*_, _≤_, _<_}
-use native.Mathlib.Nat.{mul-le-mul}
+use Prim.Native.Nat.{ℕ, zero, suc, _*_, _<_}
 use native.Mathlib.Omega.{arith}
 use lib.Dec.{ltb}
 use borrow.Author.Tests.{ltb-true, ltb-false}
@@ -49,7 +48,3 @@ pub even-not-higher : (n : ℕ) (f g : ℕ → Level) → Even n f g → Higher 
 unfolding table
 even-not-higher (suc n) f g e (at q) = q (e 0 (omega arith) .1)
 even-not-higher (suc n) f g e (next p q r) = even-not-higher n (λ k. f (suc k)) (λ k. g (suc k)) (later n f g e) r
-
--- the cross products of bounded levels
-pub product-fits : (height weight : ℕ) → height ≤ 2000000 → weight ≤ 1000 → height * weight < 4294967296
-product-fits height weight h w = let p : height * weight ≤ 2000000 * 1000 = mul-le-mul h w in omega arith

@@ -3,7 +3,7 @@ use borrow.Author.Needs.{needs}
 use mathlib.Core.Path.{sym, _∙_}
 use borrow.Author.Tests.{lt-ltb, le-ltb, eq-eqb, ne-eqb}
 use Rattle.fairness.proofs.Bools.{and-yes, and-no, or-yes, or-no}
-use Rattle.fairness.proofs.Products.{product-fits, rest-fits, improves-rest}
+use Rattle.fairness.proofs.Products.{moderate-fits, rest-fits, improves-rest}
 use Rattle.fairness.proofs.improves.Statement.{statement}
 use Rattle.fairness.proofs.improves.Tie as tie
 
@@ -23,4 +23,4 @@ returns-3 c =
 pub improves-spec : {M : Type 1} → statement M
 improves-spec =
     tie.close
-    (tie.spec (λ c κs. search needs) (λ c. search (needs, product-fits)) (λ c. search (needs, rest-fits)) returns returns-2 returns-3)
+    (tie.spec (λ c κs. search needs) (λ c. search (needs, moderate-fits)) (λ c. search (needs, rest-fits)) returns returns-2 returns-3)

@@ -1,6 +1,6 @@
 -- `leximin::is_below` meets its contract: the products fit.
 use borrow.Author.Needs.{needs}
-use Rattle.leximin.proofs.Orders.{product-fits}
+use Rattle.fairness.proofs.Products.{product-fits}
 use Rattle.leximin.proofs.is_below.Statement.{statement}
 use Rattle.leximin.proofs.is_below.Tie as tie
 
