@@ -34,13 +34,22 @@ bookFrom d =
       caps = d .caps;
       «has_sheet» = flag (d .«has_sheet»);
       sheet = d .sheet;
+      «has_first» = flag (d .book .«has_first»);
+      first = d .book .first;
     }
 
--- a book that was handed in; its sheet counts unless has_sheet is 0
+-- a book that was handed in; its sheet counts unless has_sheet is 0, and its first seat unless has_first is 0
 abbrev pub dayFrom : CreditsBook → Day
 dayFrom c =
     record {
-      book = record { seats = c .seats; windows = c .windows; classes = c .classes; supplies = c .supplies };
+      book = record {
+        seats = c .seats;
+        windows = c .windows;
+        classes = c .classes;
+        supplies = c .supplies;
+        «has_first» = not (eqb (c .«has_first») 0);
+        first = c .first;
+      };
       caps = c .caps;
       «has_sheet» = not (eqb (c .«has_sheet») 0);
       sheet = c .sheet;

@@ -2,7 +2,7 @@
 ghost use mathlib.Core.Path.{_≡_};
 ghost use Rattle.dayfile.specs.Outcome.{answer};
 ghost use Rattle.answers.specs.Answers.{told, numbersOf};
-ghost use Rattle.answers.specs.Numbers.{bookFrom, dayFrom, readNumbers, writeNumbers, markNumbers};
+ghost use Rattle.answers.specs.Numbers.{flag, bookFrom, dayFrom, readNumbers, writeNumbers, markNumbers};
 ghost use Rattle.answers.specs.Steps.{Small};
 use dayfile::Book;
 use dayfile::Check;
@@ -30,7 +30,8 @@ pub struct Numbers {
     pub moves: usize,
 }
 
-// A book with its caps, and a sheet unless has_sheet is 0. Later fields go to its end, so that offsets stay.
+// A book with its caps, a sheet unless has_sheet is 0, and a first seat unless has_first is 0. Later fields go to its end, so that offsets
+// stay.
 #[repr(C)]
 pub struct CreditsBook {
     pub seats: usize,
@@ -40,6 +41,8 @@ pub struct CreditsBook {
     pub caps: Sheet,
     pub has_sheet: u32,
     pub sheet: Sheet,
+    pub has_first: u32,
+    pub first: u16,
 }
 
 // A refusal, or a book.
@@ -167,6 +170,13 @@ impl MarkResult {
     }
 }
 
+// 1 for what is there.
+fn flag(there: bool) -> u32
+    ensures { λ r. ⌜ r ≡ flag there ⌝ }
+{
+    if there { 1 } else { 0 }
+}
+
 impl CreditsBook {
     // A day as the flat struct.
     pub fn of(day: Day) -> CreditsBook
@@ -177,7 +187,8 @@ impl CreditsBook {
         let supplies = book.supplies;
         let caps = day.caps;
         let sheet = day.sheet;
-        let has_sheet = if day.has_sheet { 1u32 } else { 0u32 };
+        let has_sheet = flag(day.has_sheet);
+        let has_first = flag(book.has_first);
         CreditsBook {
             seats: book.seats,
             windows: book.windows,
@@ -186,6 +197,8 @@ impl CreditsBook {
             caps,
             has_sheet,
             sheet,
+            has_first,
+            first: book.first,
         }
     }
 
@@ -202,6 +215,8 @@ impl CreditsBook {
             windows: self.windows,
             classes,
             supplies,
+            has_first: self.has_first != 0,
+            first: self.first,
         };
         Day {
             book,

@@ -1,10 +1,15 @@
--- Paper 01, "The book": what holds of every book and sheet that a day file can hold.
+-- Paper 01, "The book", and paper 02: what holds of every book and sheet that a day file can hold.
 use mathlib.Core.Option.{Option, none, some}
 use Prim.Native.Nat.{ℕ, _≤_, _<_}
 use lib.ListN.{getD}
 use Rattle.model.specs.Book.{Book, Grid, Shaped, SheetOf, cell, seats, windows}
 
--- 1 to 32 seats, 1 to 24 windows; classes 1 to 8; supplies and caps 0 to 4,095; a cap for each seat and window
+-- a seat that is named as the first is one of the book's
+abbrev pub FirstFit : ℕ → Option ℕ → Type 0
+FirstFit n none = Unit {0}
+FirstFit n (some k) = (1 ≤ k) × (k ≤ n)
+
+-- 1 to 32 seats, 1 to 24 windows; classes 1 to 8; supplies and caps 0 to 4,095; a cap for each seat and window; a first seat of the book
 pub record Fit (b : Book) : Type 0 where
   pub seats-low : 1 ≤ seats b
   pub seats-high : seats b ≤ 32
@@ -15,6 +20,7 @@ pub record Fit (b : Book) : Type 0 where
   pub supply-high : (j : ℕ) → j < windows b → getD (b .supplies) j 0 ≤ 4095
   pub cap-shape : Shaped (seats b) (windows b) (b .caps)
   pub cap-high : (i j : ℕ) → i < seats b → j < windows b → cell (b .caps) i j ≤ 4095
+  pub first-seat : FirstFit (seats b) (b .first)
 
 -- a sheet has one cell per seat and window; it may be missing
 abbrev pub SheetFit : Book → Option Grid → Type 0
@@ -26,6 +32,6 @@ abbrev pub TwoByte : Book → Option Grid → Type 0
 TwoByte b none = Unit {0}
 TwoByte b (some s) = (i j : ℕ) → i < seats b → j < windows b → cell s i j < 65536
 
--- the longest file has 32 seats, 24 windows and a sheet
+-- the longest file has 32 seats, 24 windows, a sheet and a first seat
 abbrev pub longestFile : ℕ
-longestFile = 3210
+longestFile = 3218

@@ -1,4 +1,4 @@
--- Paper 01, "The day file": the file of a book, with or without a sheet. A file is a list of parts, and its contents, its offsets and its
+-- Paper 01, "The day file", with paper 02's kind 5: the file of a book, with or without a sheet. A file is a list of parts, and its contents, its offsets and its
 -- bytes are computed from that list.
 use mathlib.Core.List.{List, [], _∷_, _++_}
 use mathlib.Core.Option.{Option, none, some}
@@ -48,17 +48,21 @@ flat (r ∷ rs) = r ++ flat rs
 abbrev pub flatIf : Option Grid → Option (List ℕ)
 flatIf s = andThen s (λ g. some (flat g))
 
+-- one number, if it is there
+abbrev pub oneIf : Option ℕ → Option (List ℕ)
+oneIf o = andThen o (λ x. some (x ∷ []))
+
 -- a part that may be missing
 unfoldable pub optPart : ℕ → Option (List ℕ) → List Part
 optPart k none = []
 optPart k (some xs) = part k xs ∷ []
 
 -- the parts that may be missing, in the order of their kinds
-unfoldable pub optParts : Option Grid → List Part
-optParts s = optPart 4 (flatIf s) ++ []
+unfoldable pub optParts : Book → Option Grid → List Part
+optParts b s = optPart 4 (flatIf s) ++ (optPart 5 (oneIf (b .first)) ++ [])
 
 unfoldable pub partsOf : Book → Option Grid → List Part
-partsOf b s = part 1 (b .classes) ∷ part 2 (b .supplies) ∷ part 3 (flat (b .caps)) ∷ optParts s
+partsOf b s = part 1 (b .classes) ∷ part 2 (b .supplies) ∷ part 3 (flat (b .caps)) ∷ optParts b s
 
 -- the first field is the number of entries
 unfoldable pub fileOf : Book → Option Grid → List ℕ

@@ -1,4 +1,5 @@
--- Paper 01, "The day file": its fields, its table of contents, and the book and the sheet that it holds. Entries count from 0.
+-- Paper 01, "The day file", with paper 02's kind 5: its fields, its table of contents, and the book and the sheet that it holds. Entries
+-- count from 0.
 -- All of it is total: a byte past the file's end counts as 0.
 use mathlib.Core.Bool.{cond}
 use mathlib.Core.List.{List, []}
@@ -79,6 +80,10 @@ gridAt f at n m = table n (λ i. fieldsAt f (at + 2 * (i * m)) m)
 abbrev pub gridIn : List ℕ → ℕ → Grid
 gridIn f e = gridAt f (start f e) (seatsIn f) (windowsIn f)
 
+-- kind 5: one field, the seat that comes first today; it may be missing
+unfoldable pub firstIn : List ℕ → Option ℕ
+firstIn f = andThen (entryOf f 5) (λ e. some (field f (start f e)))
+
 -- kind 1: each seat's class; kind 2: each window's supply; kind 3: caps
 unfoldable pub bookOf : List ℕ → Book
 bookOf f =
@@ -86,6 +91,7 @@ bookOf f =
       classes = fieldsAt f (start f 0) (seatsIn f);
       supplies = fieldsAt f (start f 1) (windowsIn f);
       caps = gridIn f 2;
+      first = firstIn f;
     }
 
 -- kind 4: the sheet, laid out as kind 3; it may be missing

@@ -7,7 +7,7 @@ use mathlib.Core.Path.{_≡_}
 use Prim.Native.Nat.{ℕ, _<_}
 use lib.ListN.{length, getD, drop}
 use Rattle.fairness.specs.Leximin.{table}
-use Rattle.model.specs.Lowest.{getOr, isSome}
+use Rattle.model.specs.Lowest.{when, getOr, isSome}
 use Rattle.model.specs.Book.{Book, Grid, seats, windows}
 use Rattle.sheet.specs.Sheets.{gridOf}
 use Rattle.dayfile.specs.Layout.{bookOf, sheetOf}
@@ -39,6 +39,7 @@ bookIn m caps =
       classes = sized (m .seats) (m .classes);
       supplies = sized (m .windows) (m .supplies);
       caps = sizedGrid (m .seats) (m .windows) caps;
+      first = when (m .«has_first») (m .first);
     }
 
 -- the used cells of a grid that is in memory
@@ -70,19 +71,21 @@ fileIn d = fileWith (d .book) (gridOf (d .caps)) (d .«has_sheet») (gridOf (d .
 abbrev pub held : Grid → Grid
 held g = sizedGrid 32 24 g
 
--- a day in memory holds a book, and a sheet or its absence; where there is none all cells are 0
+-- a day in memory holds a book, and a sheet or its absence; where there is none all cells are 0, and so is a first seat that is not named
 pub record Holds (b : Book) (s : Option Grid) (d : Day) : Type 0 where
   pub seats-are : d .book .seats ≡ seats b
   pub windows-are : d .book .windows ≡ windows b
   pub classes-are : d .book .classes ≡ sized 32 (b .classes)
   pub supplies-are : d .book .supplies ≡ sized 24 (b .supplies)
   pub caps-are : gridOf (d .caps) ≡ held (b .caps)
+  pub has-first-is : d .book .«has_first» ≡ isSome (b .first)
+  pub first-is : d .book .first ≡ getOr (b .first) 0
   pub has-sheet-is : d .«has_sheet» ≡ isSome s
   pub sheet-is : gridOf (d .sheet) ≡ held (getOr s [])
 
 -- no seats and no windows: a day that holds it has 0 everywhere
 abbrev pub noBook : Book
-noBook = record { classes = []; supplies = []; caps = [] }
+noBook = record { classes = []; supplies = []; caps = []; first = none }
 
 -- ---- what answers say
 

@@ -8,7 +8,7 @@ use Prim.Native.Nat.{ℕ, _+_, _-_, _*_, _%_}
 use lib.Dec.{leb, ltb, eqb}
 use lib.ListN.{length}
 use Rattle.fairness.specs.Sums.{sum}
-use Rattle.model.specs.Lowest.{lowest, when, andThen, isSome}
+use Rattle.model.specs.Lowest.{lowest, when, orElse, andThen, isSome}
 use Rattle.model.specs.Book.{Book}
 use Rattle.dayfile.specs.Layout.{field, count, contentsEnd, kind, start, size, kindAt, startAt, sizeAt, entryOf, ends}
 use Rattle.dayfile.specs.Layout.{seatsIn, windowsIn, bookOf}
@@ -28,7 +28,7 @@ wrongEntry at right f = offset at (lowest (count f) (λ e. not (right f e)))
 
 -- the last kind that is known
 abbrev pub known : ℕ
-known = 4
+known = 5
 
 -- ---- contents
 
@@ -36,7 +36,7 @@ known = 4
 unfoldable pub line1 : List ℕ → Option ℕ
 line1 f = when (ltb (length f) 2) (length f)
 
--- 2: entries not 3 or 4 | 0
+-- 2: entries not 3 to 5 | 0
 unfoldable pub line2 : List ℕ → Option ℕ
 line2 f = when (not (within 3 known (count f))) 0
 
@@ -48,7 +48,7 @@ line3 f = when (ltb (length f) (contentsEnd (count f))) (length f)
 unfoldable pub kindRight : List ℕ → ℕ → Bool
 kindRight f e = cond (ltb e 3) (eqb (kind f e) (e + 1)) (within (kind f (e - 1) + 1) known (kind f e))
 
--- 4: kinds not 1, 2, 3, (4) in order | that kind field
+-- 4: kinds not 1, 2, 3, then rising and known | that kind field
 unfoldable pub line4 : List ℕ → Option ℕ
 line4 f = wrongEntry kindAt kindRight f
 
@@ -103,6 +103,17 @@ line11 f = outside f (start f 1) (windowsIn f) 0 4095
 -- 12: cap above 4,095 | that cap
 unfoldable pub line12 : List ℕ → Option ℕ
 line12 f = outside f (start f 2) (seatsIn f * windowsIn f) 0 4095
+
+-- ---- parts that may be missing
+
+-- entry e as that of the first seat: its length is not 2 | that length field; or it is not a seat of the book | that value
+unfoldable pub wrongSeat : List ℕ → ℕ → Option ℕ
+wrongSeat f e =
+    orElse (when (not (eqb (size f e) 2)) (sizeAt e)) (when (not (within 1 (seatsIn f) (field f (start f e)))) (start f e))
+
+-- 18: first seat: length not 2, or not a seat of the book | that length field, or that value
+unfoldable pub line18 : List ℕ → Option ℕ
+line18 f = andThen (entryOf f 5) (wrongSeat f)
 
 -- ---- marker only
 
@@ -196,9 +207,9 @@ lengthLines f = line 7 (line7 f) ∷ line 8 (line8 f) ∷ line 9 (line9 f) ∷ [
 unfoldable pub valueLines : List ℕ → List Line
 valueLines f = line 10 (line10 f) ∷ line 11 (line11 f) ∷ line 12 (line12 f) ∷ []
 
--- the lines of the kinds that may be missing: paper 01 has none
+-- the lines of the kinds that may be missing
 unfoldable pub optionLines : List ℕ → List Line
-optionLines f = []
+optionLines f = line 18 (line18 f) ∷ []
 
 unfoldable pub markerLines : List ℕ → List Line
 markerLines f = line 13 (line13 f) ∷ line 14 (line14 f) ∷ line 15 (line15 f) ∷ []

@@ -1,5 +1,8 @@
 // The instance of a book in memory: the numbers that the search for exchange paths and the planner look at.
-ghost use Rattle.model.specs.Book.{Grid, instanceOf};
+ghost use mathlib.Core.Path.{_≡_};
+ghost use Prim.Native.Nat.{_≤_, _<_};
+ghost use Rattle.model.specs.Lowest.{when, getOr};
+ghost use Rattle.model.specs.Book.{Grid, placeFrom, instanceOf};
 ghost use Rattle.dayfile.specs.Bounds.{Fit};
 ghost use Rattle.dayfile.specs.Memory.{bookIn};
 ghost use Rattle.instance.specs.Terms.{Told, Ranged};
@@ -19,7 +22,27 @@ pub struct Terms {
     pub positions: [u32; 32],
 }
 
-// Weights go by class, heights start from 0, and the seat rule goes by the seat's own number.
+// The seat that comes first: without a name it is seat 1.
+fn first_seat(book: Book) -> usize
+    ensures { λ r. ⌜ (r ≡ getOr (when (book .«has_first») (book .first)) 1) ⌝ }
+{
+    if book.has_first {
+        book.first as usize
+    } else {
+        1
+    }
+}
+
+// The place of a seat among n in the order that starts at `first`.
+fn place(first: usize, n: usize, seat: usize) -> u32
+    requires { ⌜ (n ≤ 32) × (seat < 32) ⌝ }
+    ensures { λ r. ⌜ r ≡ placeFrom first n seat ⌝ }
+{
+    let place = if seat + 1 < first { n + seat } else { seat };
+    place as u32
+}
+
+// Weights go by class, heights start from 0, and the seat rule goes by the order from the first seat on.
 pub fn terms_of(book: Book) -> Terms
     requires { ⌜ ((caps : Grid) × Fit (bookIn book caps)) ⌝ }
     ensures { λ r. ⌜ Ranged r ⌝ }
@@ -28,11 +51,12 @@ pub fn terms_of(book: Book) -> Terms
     let seats = book.seats;
     let classes = book.classes;
     let supplies = book.supplies;
+    let first = first_seat(book);
     let mut weights = [0u32; 32];
     let mut positions = [0u32; 32];
     for i in 0..seats {
         weights[i] = fairness::weight(classes[i]);
-        positions[i] = i as u32;
+        positions[i] = place(first, seats, i);
     }
     Terms {
         seats,

@@ -10,7 +10,7 @@ use Rattle.fairness.specs.Classes.{weightOf}
 use Rattle.fairness.specs.Leximin.{table}
 use Rattle.fairness.specs.Exchange.{All, improves, tiesWrongly, improvesAt, tiesAt}
 use Rattle.model.specs.Lowest.{lowest}
-use Rattle.model.specs.Book.{instanceOf, isSheet, isLawful, totals}
+use Rattle.model.specs.Book.{placeFrom, instanceOf, isSheet, isLawful, totals}
 use Rattle.model.specs.Search.{member, any, filter, canTake, grow, layer, reached, fewest, donorOf, firstReceiver, search}
 use Rattle.model.specs.Marks.{seatBelow, wastedWindow, markOf, resultOf}
 use Rattle.model.specs.Examples.{Example, Holds, examples}
@@ -65,9 +65,9 @@ unfolding allHold
 all-hold [] h = tt
 all-hold (e ∷ es) h = let both = and-true _ _ .0 h in (holds-true e (both .0), all-hold es (both .1))
 
--- the marks, numbers of moves and totals of K1 to K10 and K12 are those that paper 01 gives
+-- the marks, numbers of moves and totals of K1 to K10 and K12 are those that paper 01 gives; those of paper 02's order follow from its words
 pub starred-examples-hold : All Holds examples
-unfolding sameList holds allHold isSheet isLawful totals instanceOf lowest sum table weightOf
+unfolding sameList holds allHold isSheet isLawful totals placeFrom instanceOf lowest sum table weightOf
     markOf wastedWindow seatBelow search firstReceiver donorOf fewest reached layer grow canTake filter any member
     improvesAt improves tiesAt tiesWrongly
 starred-examples-hold = all-hold examples refl

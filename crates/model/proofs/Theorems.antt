@@ -11,19 +11,20 @@ use Rattle.fairness.specs.Leximin.{Level, NoHigher, Equal, Higher, profile, Hig
 use Rattle.fairness.specs.Exchange.{Move, playAll, PlaysOut, Settled}
 use Rattle.fairness.proofs.Theorems as fairness
 use Rattle.fairness.proofs.Weights.{weight-bounds}
-use Rattle.model.specs.Book.{Book, Grid, SheetOf, Lawful, cell, seats, windows, instanceOf, totals}
+use Rattle.model.specs.Book.{Book, Grid, SheetOf, Lawful, cell, seats, windows, firstSeat, instanceOf, totals}
 use Rattle.model.specs.Fair.{profileOf, HighestList}
 use Rattle.model.specs.Search.{Found, PathOn}
 use Rattle.model.specs.Marks.{Mark, wasteful, improvable, tied, settled, Marked, markOf, passes}
 use Rattle.model.proofs.Grids.{table-same, gridOf, gridOf-cell, gridOf-shaped, agree-feasible, agree-profile}
 use Rattle.model.proofs.Agree.{agree-settled}
+use Rattle.model.proofs.Books.{place-apart}
 use Rattle.model.proofs.Marks.{mark-means, waste-of}
 
 module _ (b : Book) where
   -- every book has positive weights, and its seats have places of their own
   pub proper : Proper (instanceOf b)
   unfolding instanceOf
-  proper = record { weights = λ i l. weight-bounds (getD (b .classes) i 0) .0; positions = λ i k li lk e. e }
+  proper = record { weights = λ i l. weight-bounds (getD (b .classes) i 0) .0; positions = place-apart (firstSeat b) (seats b) }
 
   -- ---- all sheets of functions, and all grids
 

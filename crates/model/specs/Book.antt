@@ -1,15 +1,16 @@
 -- A book and a sheet as lists that hold the used entries alone, and what they are in the terms of the crate `fairness`.
 -- Seats and windows count from 0 here: seat i is paper 01's seat i + 1, window j its window j + 1.
 use mathlib.Core.Path.{_≡_}
-use mathlib.Core.Bool.{Bool, not, _&&_}
+use mathlib.Core.Bool.{Bool, not, cond, _&&_}
 use mathlib.Core.List.{List, []}
-use Prim.Native.Nat.{ℕ, _<_}
+use mathlib.Core.Option.{Option}
+use Prim.Native.Nat.{ℕ, _+_, _<_}
 use lib.Dec.{eqb, ltb}
 use lib.ListN.{length, getD}
 use Rattle.fairness.specs.Classes.{weightOf}
 use Rattle.fairness.specs.Instance.{Instance, Feasible, placed, total}
 use Rattle.fairness.specs.Leximin.{table}
-use Rattle.model.specs.Lowest.{lowest, isSome}
+use Rattle.model.specs.Lowest.{lowest, isSome, getOr}
 
 -- a row for each seat, a number for each window
 abbrev pub Grid : Type 0
@@ -24,11 +25,13 @@ pub record Shaped (n m : ℕ) (g : Grid) : Type 0 where
   pub rows : length g ≡ n
   pub row : (i : ℕ) → i < n → length (getD g i []) ≡ m
 
--- each seat's class, each window's supply, and the most each seat can use in each window
+-- each seat's class, each window's supply, the most each seat can use in each window, and paper 02's seat that comes first today, counted
+-- from 1, where one is named
 pub record Book : Type 0 where
   pub classes : List ℕ
   pub supplies : List ℕ
   pub caps : Grid
+  pub first : Option ℕ
 
 abbrev pub seats : Book → ℕ
 seats b = length (b .classes)
@@ -36,7 +39,16 @@ seats b = length (b .classes)
 abbrev pub windows : Book → ℕ
 windows b = length (b .supplies)
 
--- heights start from 0, and the seat rule goes by the seat's own number
+-- the seat that comes first: without a name it is seat 1
+abbrev pub firstSeat : Book → ℕ
+firstSeat b = getOr (b .first) 1
+
+-- paper 02's order of the seat rule runs from the first seat up to the last of n and on from 1: the place of seat i, where those before
+-- the first one come after all others. No two of n seats share a place, whatever number is named.
+unfoldable pub placeFrom : ℕ → ℕ → ℕ → ℕ
+placeFrom first n i = cond (ltb (i + 1) first) (n + i) i
+
+-- heights start from 0, and the seat rule goes by the order from the first seat on
 unfoldable pub instanceOf : Book → Instance
 instanceOf b =
     record {
@@ -46,7 +58,7 @@ instanceOf b =
       supply = λ j. getD (b .supplies) j 0;
       weight = λ i. weightOf (getD (b .classes) i 0);
       base = λ i. 0;
-      position = λ i. i;
+      position = placeFrom (firstSeat b) (seats b);
     }
 
 -- a sheet of the book: one cell per seat and window

@@ -1,7 +1,9 @@
 -- Paper 01's starred examples, K1 to K10 and K12: a book, a sheet, its mark, the number of moves of the path that the mark
--- reports, and the totals. Where paper 01 gives what is planned, the sheet is one with those totals, and settled.
+-- reports, and the totals. Where paper 01 gives what is planned, the sheet is one with those totals, and settled. Behind them paper 02's
+-- order of the seat rule, on books of our own.
 use mathlib.Core.Path.{_≡_}
 use mathlib.Core.List.{List, [], _∷_}
+use mathlib.Core.Option.{Option, none, some}
 use Prim.Native.Nat.{ℕ}
 use Rattle.model.specs.Book.{Book, Grid, SheetOf, Lawful, totals}
 use Rattle.model.specs.Marks.{markOf, resultOf}
@@ -22,7 +24,11 @@ pub record Holds (e : Example) : Type 0 where
   pub summed : totals (e .book) (e .sheet) ≡ e .sums
 
 abbrev book : List ℕ → List ℕ → Grid → Book
-book classes supplies caps = record { classes = classes; supplies = supplies; caps = caps }
+book classes supplies caps = record { classes = classes; supplies = supplies; caps = caps; first = none }
+
+-- the same book, with the seat that comes first
+abbrev firstIs : ℕ → Book → Book
+firstIs k b = record { classes = b .classes; supplies = b .supplies; caps = b .caps; first = some k }
 
 abbrev example : Book → Grid → ℕ → ℕ → List ℕ → Example
 example b s mark moves sums = record { book = b; sheet = s; mark = mark; moves = moves; sums = sums }
@@ -52,6 +58,13 @@ k10 = book (1 ∷ []) (3 ∷ []) ((2 ∷ []) ∷ [])
 abbrev k12 : Book
 k12 = book (1 ∷ 1 ∷ 1 ∷ []) (1 ∷ 2 ∷ []) ((1 ∷ 0 ∷ []) ∷ (1 ∷ 1 ∷ []) ∷ (0 ∷ 2 ∷ []) ∷ [])
 
+-- K7's book with its seats turned round, and three seats of one class at one window
+abbrev k7r : Book
+k7r = book (1 ∷ 2 ∷ []) (1 ∷ []) ((1 ∷ []) ∷ (1 ∷ []) ∷ [])
+
+abbrev three : Book
+three = book (1 ∷ 1 ∷ 1 ∷ []) (4 ∷ []) ((4 ∷ []) ∷ (4 ∷ []) ∷ (4 ∷ []) ∷ [])
+
 abbrev pub examples : List Example
 examples =
     -- K1, planned
@@ -79,4 +92,14 @@ examples =
     -- K12, the sheet and planned
     ∷ example k12 ((0 ∷ 0 ∷ []) ∷ (1 ∷ 0 ∷ []) ∷ (0 ∷ 2 ∷ []) ∷ []) 2 2 (0 ∷ 1 ∷ 2 ∷ [])
     ∷ example k12 ((1 ∷ 0 ∷ []) ∷ (0 ∷ 1 ∷ []) ∷ (0 ∷ 1 ∷ []) ∷ []) 4 0 (1 ∷ 1 ∷ 1 ∷ [])
+    -- K3's book on a day when seat 2 comes first: the sheet that K3 plans is tied, and K4's is settled
+    ∷ example (firstIs 2 k3) ((2 ∷ []) ∷ (1 ∷ []) ∷ []) 3 1 (2 ∷ 1 ∷ [])
+    ∷ example (firstIs 2 k3) ((1 ∷ []) ∷ (2 ∷ []) ∷ []) 4 0 (1 ∷ 2 ∷ [])
+    -- seat 1 named first is seat 1 first
+    ∷ example (firstIs 1 k3) ((2 ∷ []) ∷ (1 ∷ []) ∷ []) 4 0 (2 ∷ 1 ∷ [])
+    -- seat 2 first, then 3, then 1
+    ∷ example (firstIs 2 three) ((1 ∷ []) ∷ (2 ∷ []) ∷ (1 ∷ []) ∷ []) 4 0 (1 ∷ 2 ∷ 1 ∷ [])
+    ∷ example (firstIs 2 three) ((1 ∷ []) ∷ (1 ∷ []) ∷ (2 ∷ []) ∷ []) 3 1 (1 ∷ 1 ∷ 2 ∷ [])
+    -- seats of two weights do not tie: as in K7 the smaller one has the credit, whoever comes first
+    ∷ example (firstIs 2 k7r) ((1 ∷ []) ∷ (0 ∷ []) ∷ []) 4 0 (1 ∷ 0 ∷ [])
     ∷ []

@@ -5,7 +5,7 @@ ghost use mathlib.Core.Option.{none, some};
 ghost use Prim.Native.Nat.{_<_};
 ghost use Rattle.model.specs.Lowest.{getOr, isSome, andThen};
 ghost use Rattle.sheet.specs.Sheets.{gridOf};
-ghost use Rattle.dayfile.specs.Layout.{seatsIn, windowsIn, gridIn, bookOf, sheetOf};
+ghost use Rattle.dayfile.specs.Layout.{field, start, seatsIn, windowsIn, gridIn, bookOf, sheetOf};
 ghost use Rattle.dayfile.specs.Memory.{Holds, Under, found, sized, held, noBook};
 use dayfile::Book;
 use dayfile::Day;
@@ -15,10 +15,33 @@ use fields::arrays::array32;
 use fields::arrays::grid;
 use fields::arrays::no_grid;
 use fields::entry_of;
+use fields::field;
 use fields::seats;
 use fields::start;
 use fields::windows;
 use sheet::Sheet;
+
+// Whether there is an entry.
+fn is_there(entry: Found) -> bool
+    ensures { λ r. ⌜ r ≡ isSome (found entry) ⌝ }
+{
+    if let Found::At(_) = entry {
+        true
+    } else {
+        false
+    }
+}
+
+// The field that is the body of an entry; 0 where there is none.
+fn field_of(file: &[u8], entry: Found) -> u16
+    requires { ⌜ Under 65536 (found entry) ⌝ }
+    ensures { λ r. ⌜ r ≡ getOr (andThen (found entry) (λ e. some (field (now (file .entry)) (start (now (file .entry)) e)))) 0 ⌝ }
+{
+    if let Found::At(e) = entry {
+        return field(file, start(file, e)) as u16;
+    }
+    0
+}
 
 // The book, but for its caps.
 fn book_of(file: &[u8]) -> Book
@@ -26,16 +49,23 @@ fn book_of(file: &[u8]) -> Book
     ensures windows { λ r. ⌜ r .windows ≡ windowsIn (now (file .entry)) ⌝ }
     ensures classes { λ r. ⌜ r .classes ≡ sized 32 (bookOf (now (file .entry)) .classes) ⌝ }
     ensures supplies { λ r. ⌜ r .supplies ≡ sized 24 (bookOf (now (file .entry)) .supplies) ⌝ }
+    ensures has_first { λ r. ⌜ r .«has_first» ≡ isSome (bookOf (now (file .entry)) .first) ⌝ }
+    ensures first { λ r. ⌜ r .first ≡ getOr (bookOf (now (file .entry)) .first) 0 ⌝ }
 {
     let seats = seats(file);
     let windows = windows(file);
     let classes = array32(file, start(file, 0), seats);
     let supplies = array24(file, start(file, 1), windows);
+    let entry = entry_of(file, 5);
+    let has_first = is_there(entry);
+    let first = field_of(file, entry);
     Book {
         seats,
         windows,
         classes,
         supplies,
+        has_first,
+        first,
     }
 }
 
@@ -56,17 +86,6 @@ fn sheet_of(file: &[u8], entry: Found) -> Sheet
         return grid_of(file, e);
     }
     no_grid()
-}
-
-// Whether there is an entry.
-fn is_there(entry: Found) -> bool
-    ensures { λ r. ⌜ r ≡ isSome (found entry) ⌝ }
-{
-    if let Found::At(_) = entry {
-        true
-    } else {
-        false
-    }
 }
 
 // The day of a file. Each part that may be missing has its entry looked up once.
@@ -95,6 +114,8 @@ pub fn no_day() -> Day
         windows: 0,
         classes: [0u16; 32],
         supplies: [0u16; 24],
+        has_first: false,
+        first: 0,
     };
     Day {
         book,

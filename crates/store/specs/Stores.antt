@@ -74,6 +74,7 @@ slotsOf b hasSheet =
     ∷ slot 2 true (b .windows)
     ∷ slot 3 true (b .seats * b .windows)
     ∷ slot 4 hasSheet (b .seats * b .windows)
+    ∷ slot 5 (b .«has_first») 1
     ∷ []
 
 abbrev pub slotsIn : Day → List Slot
@@ -82,3 +83,7 @@ slotsIn d = slotsOf (d .book) (d .«has_sheet»)
 -- the bodies that are plain lists, one after another: the classes and the supplies
 abbrev pub listFields : Memory.Book → List ℕ
 listFields b = flat (sized (b .seats) (b .classes) ∷ sized (b .windows) (b .supplies) ∷ [])
+
+-- the body of the first seat, where it is there
+abbrev pub firstFields : Memory.Book → List ℕ
+firstFields b = fieldsIf (b .«has_first») (b .first ∷ [])

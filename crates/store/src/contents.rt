@@ -52,6 +52,11 @@ pub fn slots_of(book: Book, has_sheet: bool) -> [Slot; KNOWN]
             there: has_sheet,
             fields: grid,
         },
+        Slot {
+            kind: 5,
+            there: book.has_first,
+            fields: 1,
+        },
     ]
 }
 

@@ -1,16 +1,18 @@
 // Lines 7, 8, 10, 11, 12 and those of the parts that may be missing, on a day in memory, with the offsets of the file that would be
 // written.
 ghost use mathlib.Core.Path.{_≡_};
+ghost use mathlib.Core.Bool.{not};
 ghost use mathlib.Core.List.{[], _∷_, _++_};
 ghost use Prim.Native.Nat.{_<_, _≤_};
+ghost use Rattle.model.specs.Lowest.{when, andThen};
 ghost use Rattle.model.specs.Book.{Grid};
 ghost use Rattle.sheet.specs.Sheets.{gridOf};
 ghost use Rattle.dayfile.specs.Layout.{contentsEnd};
 ghost use Rattle.dayfile.specs.File.{flat};
-ghost use Rattle.dayfile.specs.Table.{line, line7, line8, valueLines, optionLines, firstOf};
+ghost use Rattle.dayfile.specs.Table.{within, line, line7, line8, valueLines, optionLines, firstOf};
 ghost use Rattle.dayfile.specs.Memory.{found, refused, sized, sizedGrid, fileWith, fileIn};
 ghost use Rattle.dayfile.specs.declared.Day.{Day};
-ghost use Rattle.store.specs.Stores.{entries, slotsIn};
+ghost use Rattle.store.specs.Stores.{entries, slotsOf, slotsIn};
 ghost use Rattle.writer.specs.Values.{outsideIn};
 use dayfile::Book;
 use dayfile::Check;
@@ -22,6 +24,7 @@ use dayfile::within;
 use sheet::Sheet;
 use store::contents::first_body;
 use store::numbers::number;
+use store::numbers::size_if;
 
 // The first of n numbers that is not low to high, where the first one's field is at `at`.
 fn outside_in(src: &[u16], n: usize, at: usize, low: usize, high: usize) -> Found
@@ -86,12 +89,26 @@ fn check_values(book: Book, caps: Sheet, at: usize) -> Check
     )
 }
 
-// The lines of the parts that may be missing: paper 01 has none.
-fn check_options(_book: Book, _has_sheet: bool) -> Check
-    requires { ⌜ («_book» .seats ≤ 32) × («_book» .windows ≤ 24) ⌝ }
-    ensures { λ r. ⌜ ((caps sheet : Grid) → refused r ≡ firstOf (optionLines (fileWith «_book» caps «_has_sheet» sheet))) ⌝ }
+// The first seat, where it is there and not a seat of the book, and where its body starts at `at`. Its length is right by making.
+fn wrong_first(book: Book, at: usize) -> Found
+    ensures { λ r. ⌜ found r ≡ andThen (when (book .«has_first») (book .first)) (λ k. when (not (within 1 (book .seats) k)) at) ⌝ }
 {
-    Check::Sound
+    if book.has_first {
+        return outside_at(1, book.seats, book.first as usize, at);
+    }
+    Found::Nothing
+}
+
+// The lines of the parts that may be missing, where the first body starts at `at`.
+fn check_options(book: Book, has_sheet: bool, at: usize) -> Check
+    requires { ⌜ (book .seats ≤ 32) × (book .windows ≤ 24) × (at < 100) ⌝ }
+    ensures { λ r. ⌜ ((caps sheet : Grid) → at ≡ contentsEnd (entries (slotsOf book «has_sheet»))
+        → refused r ≡ firstOf (optionLines (fileWith book caps «has_sheet» sheet))) ⌝ }
+{
+    let cells = book.seats * book.windows;
+    let before = book.seats + book.windows + cells + size_if(has_sheet, cells);
+    let first = wrong_first(book, at + 2 * before);
+    first_of(18, first, Found::Nothing, Found::Nothing)
 }
 
 // All of the writer's lines but 16.
@@ -107,5 +124,5 @@ pub fn check_day(day: Day) -> Check
     if let Check::Refused { number, at } = check_values(book, day.caps, start) {
         return Check::Refused { number, at };
     }
-    check_options(book, day.has_sheet)
+    check_options(book, day.has_sheet, start)
 }
