@@ -1,5 +1,6 @@
 -- The book and the sheet of a file that no line turns away are within paper 01's bounds; so is a book that the writer's lines take.
 -- Assumes nothing.
+use mathlib.Core.Bool.{true, not}
 use mathlib.Core.List.{List, _∷_}
 use mathlib.Core.Option.{Option, none, some}
 use mathlib.Core.Path.{_≡_, refl, sym, _∙_, ap, ap₂}
@@ -7,18 +8,19 @@ use Prim.Native.Nat.{ℕ, _+_, _*_, _<_}
 use native.Mathlib.Nat.{mul-le-mul-right}
 use native.Mathlib.Omega.{arith}
 use lib.ListN.{length, getD}
-use Rattle.model.specs.Lowest.{andThen}
+use Rattle.model.specs.Lowest.{when, andThen}
 use Rattle.model.specs.Book.{Book, Grid, Shaped, cell, seats, windows}
-use Rattle.dayfile.specs.Bounds.{Fit, SheetFit, TwoByte}
-use Rattle.dayfile.specs.Layout.{Bytes, field, start, size, seatsIn, windowsIn, sizeAt, entryOf, gridIn, bookOf, sheetOf}
+use Rattle.dayfile.specs.Bounds.{Fit, FirstFit, SheetFit, TwoByte}
+use Rattle.dayfile.specs.Layout.{Bytes, field, start, size, seatsIn, windowsIn, sizeAt, entryOf, gridIn, firstIn, bookOf, sheetOf}
 use Rattle.dayfile.specs.File.{Part, part, flat, optParts, partsOf, assemble, fileOf}
-use Rattle.dayfile.specs.Table.{firstOf, line7, line8, line10, line11, line12, valueLines, writeLines}
-use Rattle.dayfile.proofs.Tests.{low-as, high-as}
+use Rattle.dayfile.specs.Table.{within, firstOf, line7, line8, line10, line11, line12, line18, valueLines, optionLines, writeLines}
+use Rattle.dayfile.proofs.Tests.{low-as, high-as, within-low, within-high}
 use Rattle.dayfile.proofs.Lines.{none-holds}
 use Rattle.dayfile.proofs.Fields.{field-small, fields-length, fields-at, grid-shaped, grid-cell}
 use Rattle.dayfile.proofs.Grids.{flat-length, flat-at}
 use Rattle.dayfile.proofs.Container.{nth, size-is, body-is}
-use Rattle.dayfile.proofs.Sound.{Sound, FieldsWithin, Even, even-size, none-outside}
+use Rattle.dayfile.proofs.Sound.{Sound, FieldsWithin, Even, even-size, none-outside, kept}
+use Rattle.dayfile.proofs.WrittenReads.{first-line}
 
 -- ---- a file that is read
 
@@ -69,6 +71,19 @@ module _ (f : List ℕ) where
   unfolding sheetOf
   sheet-fits = sheet-shaped (entryOf f 4)
 
+  first-within : (n : ℕ) → n ≡ seatsIn f → (r : Option ℕ)
+      → ((e : ℕ) → r ≡ some e → within 1 (seatsIn f) (field f (start f e)) ≡ true)
+      → FirstFit n (andThen r (λ e. some (field f (start f e))))
+  first-within n q none h = tt
+  first-within n q (some e) h =
+      let x : ℕ = field f (start f e) in
+      let v = h e refl in
+      (within-low 1 (seatsIn f) x v, omega (arith, q, within-high 1 (seatsIn f) x v))
+
+  pub first-fits : Sound f → FirstFit (seats (bookOf f)) (bookOf f .first)
+  unfolding bookOf firstIn
+  first-fits s = first-within (seats (bookOf f)) (seats-are f) (entryOf f 5) (s .first)
+
   sheet-small : Bytes f → (r : Option ℕ)
       → TwoByte (bookOf f) (andThen r (λ e. some (gridIn f e)))
   sheet-small by none = tt
@@ -101,13 +116,14 @@ fits f s =
       cap-shape = cap-shaped f;
       cap-high = λ i j h k. high-as 0 4095 (cap-field f i j (omega arith) (omega arith))
           (s .caps (i * windowsIn f + j) (cell-inside (seatsIn f) (windowsIn f) i j (omega arith) (omega arith)));
+      first-seat = first-fits f s;
     }
 
 -- ---- a book that is written
 
 module _ (b : Book) (o : Option Grid) (shape : Shaped (seats b) (windows b) (b .caps)) where
   abbrev ps : List Part
-  ps = part 1 (b .classes) ∷ part 2 (b .supplies) ∷ part 3 (flat (b .caps)) ∷ optParts o
+  ps = part 1 (b .classes) ∷ part 2 (b .supplies) ∷ part 3 (flat (b .caps)) ∷ optParts b o
 
   abbrev file : List ℕ
   file = assemble (length ps) ps
@@ -132,9 +148,10 @@ module _ (b : Book) (o : Option Grid) (shape : Shaped (seats b) (windows b) (b .
     classes : FieldsWithin file (start file 0) (seatsIn file) 1 8
     supplies : FieldsWithin file (start file 1) (windowsIn file) 0 4095
     caps : FieldsWithin file (start file 2) (seatsIn file * windowsIn file) 0 4095
+    first : line18 file ≡ none
 
   passed : (room : ℕ) → firstOf (writeLines file room) ≡ none → Values
-  unfolding writeLines valueLines line7 line8 line10 line11 line12
+  unfolding writeLines valueLines optionLines line7 line8 line10 line11 line12
   passed room e =
       let n = none-holds (writeLines file room) e in
       record {
@@ -143,9 +160,17 @@ module _ (b : Book) (o : Option Grid) (shape : Shaped (seats b) (windows b) (b .
         classes = none-outside file (start file 0) (seatsIn file) 1 8 (n .1 .1 .0);
         supplies = none-outside file (start file 1) (windowsIn file) 0 4095 (n .1 .1 .1 .0);
         caps = none-outside file (start file 2) (seatsIn file * windowsIn file) 0 4095 (n .1 .1 .1 .1 .0);
+        first = n .1 .1 .1 .1 .1 .0;
       }
 
+  -- a first seat that line 18 lets pass
+  seat-fits : (k : Option ℕ) (at : ℕ) → andThen k (λ x. when (not (within 1 (seats b) x)) at) ≡ none → FirstFit (seats b) k
+  seat-fits none at e = tt
+  seat-fits (some x) at e =
+      let v = kept (within 1 (seats b) x) at e in (within-low 1 (seats b) x v, within-high 1 (seats b) x v)
+
   file-fits : (room : ℕ) → firstOf (writeLines file room) ≡ none → Fit b
+  unfolding fileOf partsOf
   file-fits room free =
       let v = passed room free in
       let s = size-seats in
@@ -170,6 +195,7 @@ module _ (b : Book) (o : Option Grid) (shape : Shaped (seats b) (windows b) (b .
             high-as 0 4095
             (sym (flat-at (seats b) (windows b) (b .caps) shape i j h k) ∙ number-at 2 (i * windows b + j) (omega arith) (omega arith))
             (v .caps (i * windows b + j) (omega arith));
+        first-seat = seat-fits (b .first) _ (sym (first-line b o) ∙ v .first);
       }
 
   pub taken-fits : (room : ℕ) → firstOf (writeLines (fileOf b o) room) ≡ none → Fit b

@@ -23,7 +23,7 @@ before [] e = 0
 before (p ∷ ps) zero = 0
 before (p ∷ ps) (suc e) = length (p .body) + before ps e
 
-before-none : (ps : List Part) → before ps 0 ≡ 0
+pub before-none : (ps : List Part) → before ps 0 ≡ 0
 before-none [] = refl
 before-none (p ∷ ps) = refl
 

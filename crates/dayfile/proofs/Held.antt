@@ -7,7 +7,7 @@ use mathlib.Core.Path.{_≡_, refl, sym, _∙_, ap, ap₂}
 use Prim.Native.Nat.{ℕ, _≤_}
 use native.Mathlib.Omega.{arith}
 use lib.ListN.{length}
-use Rattle.model.specs.Lowest.{isSome, getOr}
+use Rattle.model.specs.Lowest.{when, isSome, getOr}
 use Rattle.model.specs.Book.{Book, Grid, Shaped, seats, windows}
 use Rattle.dayfile.specs.Bounds.{Fit, SheetFit}
 use Rattle.sheet.specs.Sheets.{gridOf}
@@ -53,18 +53,25 @@ module _ (b : Book) (s : Option Grid) (d : Day) (fit : Fit b) (h : Holds b s d) 
       ap₂ (λ (x y : ℕ). sizedGrid x y (held g)) (h .seats-are) (h .windows-are)
       ∙ sized-grid-again (seats b) (windows b) 32 24 g (fit .seats-high) (fit .windows-high) p
 
-  abbrev made : List ℕ → List ℕ → Grid → Book
-  made x y z = record { classes = x; supplies = y; caps = z }
+  abbrev made : List ℕ → List ℕ → Grid → Option ℕ → Book
+  made x y z k = record { classes = x; supplies = y; caps = z; first = k }
+
+  -- what may be missing, by its flag and its number
+  held-first : (k : Option ℕ) (t : Bool) (x : ℕ) → t ≡ isSome k → x ≡ getOr k 0 → when t x ≡ k
+  held-first none t x p q = ap (λ (y : Bool). when y x) p
+  held-first (some k) t x p q = ap₂ when p q
 
   pub held-book : dayBook d ≡ b
   unfolding bookIn
   held-book =
-      ap₂ (λ (x y : List ℕ). made x y (sizedGrid (d .book .seats) (d .book .windows) (gridOf (d .caps))))
+      ap₂ (λ (x y : List ℕ). made x y (sizedGrid (d .book .seats) (d .book .windows) (gridOf (d .caps)))
+      (when (d .book .«has_first») (d .book .first)))
       (again (seats b) 32 (d .book .seats) (b .classes) (d .book .classes) (h .seats-are) (h .classes-are) (fit .seats-high) refl)
       (again (windows b) 24 (d .book .windows) (b .supplies) (d .book .supplies) (h .windows-are) (h .supplies-are)
       (fit .windows-high) refl)
-      ∙ ap (made (b .classes) (b .supplies))
+      ∙ ap₂ (made (b .classes) (b .supplies))
       (ap (sizedGrid (d .book .seats) (d .book .windows)) (h .caps-are) ∙ grid-again (b .caps) (fit .cap-shape))
+      (held-first (b .first) (d .book .«has_first») (d .book .first) (h .has-first-is) (h .first-is))
 
   pub held-sheet : SheetFit b s → daySheet d ≡ s
   held-sheet p = go s p (h .has-sheet-is) (h .sheet-is)

@@ -9,9 +9,10 @@ use native.Mathlib.Omega.{arith}
 use lib.ListN.{length, getD, length-append}
 use Rattle.fairness.specs.Leximin.{table}
 use Rattle.model.specs.Book.{Book, Grid, Shaped, SheetOf, cell, seats, windows}
-use Rattle.dayfile.specs.Bounds.{Fit, SheetFit, TwoByte, longestFile}
+use Rattle.dayfile.specs.Bounds.{Fit, FirstFit, SheetFit, TwoByte, longestFile}
 use Rattle.dayfile.specs.Layout.{Bytes, contentsEnd}
 use Rattle.dayfile.specs.File.{Part, part, contents, bodies, fieldsOf, flat, flatIf, optPart, optParts, partsOf, assemble, fileOf}
+use Rattle.dayfile.specs.File.{oneIf}
 use Rattle.dayfile.specs.Table.{plannedLength}
 use Rattle.dayfile.specs.Memory.{sizedGrid}
 use Rattle.lists.proofs.Tables.{table-length, table-at}
@@ -19,18 +20,9 @@ use Rattle.dayfile.proofs.Tables.{sized-at, sized-row, sized-shaped}
 use Rattle.dayfile.proofs.Fields.{bytes-small}
 use Rattle.dayfile.proofs.Grids.{flat-length, flat-cell}
 use Rattle.dayfile.proofs.Container.{file-size}
-use Rattle.dayfile.proofs.Optional.{Each, IfThere, each-opt}
+use Rattle.dayfile.proofs.Optional.{Each, IfThere, each-opt, entryIf, lengthIf}
 
 -- ---- the length
-
--- the number of entries and of fields of a part that may be missing
-abbrev pub entryIf : Option (List ℕ) → ℕ
-entryIf none = 0
-entryIf (some xs) = 1
-
-abbrev pub lengthIf : Option (List ℕ) → ℕ
-lengthIf none = 0
-lengthIf (some xs) = length xs
 
 pub count-opt : (k : ℕ) (o : Option (List ℕ)) (qs : List Part) → length (optPart k o ++ qs) ≡ entryIf o + length qs
 unfolding optPart
@@ -44,13 +36,17 @@ bodies-opt k (some xs) qs = length-append xs (bodies qs)
 
 pub file-length : (b : Book) (o : Option Grid)
     → length (fileOf b o)
-    ≡ contentsEnd (3 + entryIf (flatIf o)) + 2 * (seats b + windows b + length (flat (b .caps)) + lengthIf (flatIf o))
+    ≡ contentsEnd (3 + entryIf (flatIf o) + entryIf (oneIf (b .first)))
+    + 2 * (seats b + windows b + length (flat (b .caps)) + lengthIf (flatIf o) + lengthIf (oneIf (b .first)))
 unfolding fileOf partsOf optParts bodies
 file-length b o =
-    let ps : List Part = optPart 4 (flatIf o) ++ [] in
+    let tail : List Part = optPart 5 (oneIf (b .first)) ++ [] in
+    let ps : List Part = optPart 4 (flatIf o) ++ tail in
     let all : List Part = part 1 (b .classes) ∷ part 2 (b .supplies) ∷ part 3 (flat (b .caps)) ∷ ps in
-    let n = count-opt 4 (flatIf o) [] in
-    let s = bodies-opt 4 (flatIf o) [] in
+    let n = count-opt 4 (flatIf o) tail in
+    let s = bodies-opt 4 (flatIf o) tail in
+    let i = count-opt 5 (oneIf (b .first)) [] in
+    let j = bodies-opt 5 (oneIf (b .first)) [] in
     let a = length-append (b .classes) (b .supplies ++ (flat (b .caps) ++ bodies ps)) in
     let c = length-append (b .supplies) (flat (b .caps) ++ bodies ps) in
     let d = length-append (flat (b .caps)) (bodies ps) in
@@ -64,6 +60,11 @@ few-entries : (o : Option Grid) → entryIf (flatIf o) ≤ 1
 few-entries none = omega arith
 few-entries (some g) = omega arith
 
+-- a first seat is one entry of one field, or none of none
+one-most : (k : Option ℕ) → (entryIf (oneIf k) ≤ 1) × (lengthIf (oneIf k) ≤ 1)
+one-most none = (omega arith, omega arith)
+one-most (some x) = (omega arith, omega arith)
+
 few-cells : (n m : ℕ) → n ≤ 32 → m ≤ 24 → n * m ≤ 768
 few-cells n m h k = let a = mul-le-mul-left n k in let b = mul-le-mul-right 24 h in omega arith
 
@@ -73,10 +74,11 @@ file-short b o fit sheet =
     let c = flat-length (seats b) (windows b) (b .caps) (fit .cap-shape) in
     let s = sheet-length b o sheet in
     let n = few-entries o in
+    let k = one-most (b .first) in
     let p = few-cells (seats b) (windows b) (fit .seats-high) (fit .windows-high) in
     let q = mul-le-mul-right (seats b * windows b) n in
     let sh = fit .seats-high in
-    let wh = fit .windows-high in omega arith
+    let wh = fit .windows-high in omega (arith, k)
 
 -- a sheet of whatever cells makes the file as long
 pub planned-length : (b : Book) (s : Grid) → Shaped (seats b) (windows b) (b .caps) → SheetOf b s
@@ -137,6 +139,10 @@ sheet-small b (some g) f t = (
       (flat-cell (seats b) (windows b) g f (λ x. x ≤ 65535) (λ i j h k. omega (arith, t i j h k))),
 )
 
+first-small : (n : ℕ) (k : Option ℕ) → n ≤ 32 → FirstFit n k → IfThere (λ xs. SmallPart (part 5 xs)) (oneIf k)
+first-small n none l h = tt
+first-small n (some x) l h = (omega arith, small-cons x [] (omega (arith, h .1)) (λ i. omega arith))
+
 module _ (b : Book) (o : Option Grid) (fit : Fit b) (sheet : SheetFit b o) (two : TwoByte b o) where
   caps-small : Small (flat (b .caps))
   caps-small =
@@ -149,7 +155,11 @@ module _ (b : Book) (o : Option Grid) (fit : Fit b) (sheet : SheetFit b o) (two 
     (omega arith, small-under 8 (b .classes) (omega arith) (fit .class-high)),
     (
       (omega arith, small-under 4095 (b .supplies) (omega arith) (fit .supply-high)),
-      ((omega arith, caps-small), each-opt SmallPart 4 (flatIf o) [] (sheet-small b o sheet two) tt),
+      (
+        (omega arith, caps-small),
+        each-opt SmallPart 4 (flatIf o) (optPart 5 (oneIf (b .first)) ++ []) (sheet-small b o sheet two)
+            (each-opt SmallPart 5 (oneIf (b .first)) [] (first-small (seats b) (b .first) (fit .seats-high) (fit .first-seat)) tt),
+      ),
     ),
   )
 
@@ -164,10 +174,10 @@ module _ (b : Book) (o : Option Grid) (fit : Fit b) (sheet : SheetFit b o) (two 
       (small-append (contents (contentsEnd (length ps)) ps) (bodies ps)
       (contents-small (contentsEnd (length ps)) ps (omega arith) parts-small) (bodies-small ps parts-small)))
 
--- ---- a file that is as long as any: 32 seats, 24 windows and a sheet
+-- ---- a file that is as long as any: 32 seats, 24 windows, a sheet and a first seat
 
 abbrev pub longBook : Book
-longBook = record { classes = table 32 (λ i. 1); supplies = table 24 (λ i. 0); caps = sizedGrid 32 24 [] }
+longBook = record { classes = table 32 (λ i. 1); supplies = table 24 (λ i. 0); caps = sizedGrid 32 24 []; first = some 1 }
 
 abbrev pub longSheet : Grid
 longSheet = sizedGrid 32 24 []
@@ -202,6 +212,7 @@ long-fits =
       supply-high = λ j h. omega (arith, table-at {A = ℕ} 24 (λ i. 0) j 0 (omega arith));
       cap-shape = long-shape;
       cap-high = λ i j h k. omega (arith, zero-cell i j (omega arith) (omega arith));
+      first-seat = (omega arith, omega arith);
     }
 
 pub long-sheet-fits : SheetFit longBook (some longSheet)

@@ -11,7 +11,7 @@ use lib.ListN.{length}
 use Rattle.dayfile.specs.Layout.{entriesIn, count, kind, entryOf}
 use Rattle.dayfile.specs.File.{Part, part, optPart, assemble}
 use Rattle.dayfile.specs.Table.{known}
-use Rattle.dayfile.proofs.Container.{nth, count-is, kind-is}
+use Rattle.dayfile.proofs.Container.{nth, before, before-next, count-is, kind-is}
 use Rattle.dayfile.proofs.Rising.{InOrder, Split, hit, split-hit, miss, split-miss}
 
 -- ---- the kinds rise from lo on, and all are known
@@ -63,72 +63,86 @@ unfolding optPart
 few-opt k none qs = omega arith
 few-opt k (some xs) qs = omega arith
 
+-- the number of entries and of fields of a part that may be missing
+abbrev pub entryIf : Option (List ℕ) → ℕ
+entryIf none = 0
+entryIf (some xs) = 1
+
+abbrev pub lengthIf : Option (List ℕ) → ℕ
+lengthIf none = 0
+lengthIf (some xs) = length xs
+
 -- ---- where a kind's entry lies in the file of some parts
 
 module _ (first : ℕ) (ps : List Part) (told : entriesIn first ≡ length ps) (order : InOrder (assemble first ps)) where
   abbrev file : List ℕ
   file = assemble first ps
 
-  -- from entry e on the parts are qs
-  pub record Tail (e : ℕ) (qs : List Part) : Type 0 where
+  -- from entry e on the parts are qs, and the bodies before them have k fields
+  pub record Tail (e k : ℕ) (qs : List Part) : Type 0 where
     pub long : length ps ≡ e + length qs
     pub same : (i : ℕ) → nth ps (e + i) ≡ nth qs i
+    pub ahead : before ps e ≡ k
 
-  -- an entry with the body, or neither
-  abbrev pub BodyAt : Option ℕ → Option (List ℕ) → Type 0
-  BodyAt none none = Unit {0}
-  BodyAt none (some xs) = ⊥
-  BodyAt (some e) none = ⊥
-  BodyAt (some e) (some xs) = (e < length ps) × (nth ps e .body ≡ xs)
+  -- an entry with the body, k fields behind the first one's start, or neither
+  abbrev pub BodyAt : ℕ → Option ℕ → Option (List ℕ) → Type 0
+  BodyAt k none none = Unit {0}
+  BodyAt k none (some xs) = ⊥
+  BodyAt k (some e) none = ⊥
+  BodyAt k (some e) (some xs) = (e < length ps) × (nth ps e .body ≡ xs) × (before ps e ≡ k)
 
   -- the entry of kind lo is found, and the kinds after it lie from entry `next` on
-  pub record Looked (lo : ℕ) (o : Option (List ℕ)) (qs : List Part) : Type 0 where
-    pub body : BodyAt (entryOf (assemble first ps) lo) o
+  pub record Looked (lo k : ℕ) (o : Option (List ℕ)) (qs : List Part) : Type 0 where
+    pub body : BodyAt k (entryOf (assemble first ps) lo) o
     pub next : ℕ
     pub split : Split (assemble first ps) order next (suc lo)
-    pub tail : Tail next qs
+    pub tail : Tail next (k + lengthIf o) qs
 
-  head-is : (e : ℕ) (q : Part) (qs : List Part) → Tail e (q ∷ qs) → nth ps e ≡ q
-  head-is e q qs t = ap (nth ps) {x = e} {y = e + 0} (omega arith) ∙ t .same 0
+  head-is : (e k : ℕ) (q : Part) (qs : List Part) → Tail e k (q ∷ qs) → nth ps e ≡ q
+  head-is e k q qs t = ap (nth ps) {x = e} {y = e + 0} (omega arith) ∙ t .same 0
 
-  rest-is : (e : ℕ) (q : Part) (qs : List Part) → Tail e (q ∷ qs) → Tail (suc e) qs
-  rest-is e q qs t =
+  rest-is : (e k : ℕ) (q : Part) (qs : List Part) → Tail e k (q ∷ qs) → Tail (suc e) (k + length (q .body)) qs
+  rest-is e k q qs t =
+      let x = t .long in
+      let here = ap (λ (p : Part). length (p .body)) (head-is e k q qs t) in
       record {
-        long = (let x = t .long in omega arith);
+        long = omega arith;
         same = λ i. ap (nth ps) {x = suc e + i} {y = e + suc i} (omega arith) ∙ t .same (suc i);
+        ahead = omega (arith, before-next ps e (omega arith), t .ahead);
       }
 
-  missing : (e lo : ℕ) (qs : List Part) → Split (assemble first ps) order e lo → Tail e qs
-      → (e < count (assemble first ps) → kind (assemble first ps) e ≡ lo → ⊥) → Looked lo none qs
-  missing e lo qs s t n =
+  missing : (e lo k : ℕ) (qs : List Part) → Split (assemble first ps) order e lo → Tail e k qs
+      → (e < count (assemble first ps) → kind (assemble first ps) e ≡ lo → ⊥) → Looked lo k none qs
+  missing e lo k qs s t n =
       record {
-        body = subst (λ (r : Option ℕ). BodyAt r none) (sym (miss file order e lo s n)) tt;
+        body = subst (λ (r : Option ℕ). BodyAt k r none) (sym (miss file order e lo s n)) tt;
         next = e;
         split = split-miss file order e lo s n;
-        tail = t;
+        tail = record { long = t .long; same = t .same; ahead = omega (arith, t .ahead) };
       }
 
-  pub look : (e lo : ℕ) (o : Option (List ℕ)) (qs : List Part)
-      → Split (assemble first ps) order e lo → Tail e (optPart lo o ++ qs) → Above (suc lo) qs → Looked lo o qs
+  pub look : (e lo k : ℕ) (o : Option (List ℕ)) (qs : List Part)
+      → Split (assemble first ps) order e lo → Tail e k (optPart lo o ++ qs) → Above (suc lo) qs → Looked lo k o qs
   unfolding optPart
-  look e lo (some xs) qs s t a =
+  look e lo k (some xs) qs s t a =
       let c = count-is first ps told in
       let x = t .long in
       let l : e < length ps = omega arith in
-      let here : nth ps e ≡ part lo xs = head-is e (part lo xs) qs t in
+      let here : nth ps e ≡ part lo xs = head-is e k (part lo xs) qs t in
       let q : kind file e ≡ lo = kind-is first ps told e l ∙ ap (λ (p : Part). p .sort) here in
       let l′ : e < count file = omega arith in
       record {
         body =
-            subst (λ (r : Option ℕ). BodyAt r (some xs)) (sym (hit file order e lo s l′ q)) (l, ap (λ (p : Part). p .body) here);
+            subst (λ (r : Option ℕ). BodyAt k r (some xs)) (sym (hit file order e lo s l′ q))
+            (l, ap (λ (p : Part). p .body) here, t .ahead);
         next = suc e;
         split = split-hit file order e lo s l′ q;
-        tail = rest-is e (part lo xs) qs t;
+        tail = rest-is e k (part lo xs) qs t;
       }
-  look e lo none [] s t a =
-      let c = count-is first ps told in missing e lo [] s t (λ l q. let x = t .long in omega arith)
-  look e lo none (p ∷ qs) s t a =
+  look e lo k none [] s t a =
+      let c = count-is first ps told in missing e lo k [] s t (λ l q. let x = t .long in omega arith)
+  look e lo k none (p ∷ qs) s t a =
       let c = count-is first ps told in
-      missing e lo (p ∷ qs) s t (λ l q.
-      let k = kind-is first ps told e (omega arith) in
-      let h = ap (λ (x : Part). x .sort) (head-is e p qs t) in let b = a .0 in omega arith)
+      missing e lo k (p ∷ qs) s t (λ l q.
+      let y = kind-is first ps told e (omega arith) in
+      let h = ap (λ (x : Part). x .sort) (head-is e k p qs t) in let b = a .0 in omega arith)

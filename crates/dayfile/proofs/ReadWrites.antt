@@ -10,12 +10,13 @@ use native.Mathlib.Omega.{arith}
 use lib.Dec.{eqb}
 use lib.ListN.{length}
 use borrow.Author.Tests.{ne-eqb, eqb-true}
+use Rattle.fairness.specs.Leximin.{table}
 use Rattle.model.specs.Lowest.{andThen}
 use Rattle.model.proofs.Lowest.{lowest-some}
 use Rattle.dayfile.specs.Layout.{Bytes, field, count, contentsEnd, kind, start, size, ends, seatsIn, windowsIn, entryOf}
-use Rattle.dayfile.specs.Layout.{fieldsAt, gridIn, bookOf, sheetOf}
+use Rattle.dayfile.specs.Layout.{fieldsAt, gridIn, firstIn, bookOf, sheetOf}
 use Rattle.dayfile.specs.File.{bytesOf, Part, part, contents, bodies, fieldsOf, assemble, flat, optPart, optParts, flatIf}
-use Rattle.dayfile.specs.File.{partsOf, fileOf}
+use Rattle.dayfile.specs.File.{oneIf, partsOf, fileOf}
 use Rattle.dayfile.specs.Table.{known}
 use Rattle.dayfile.proofs.Tables.{run, run-length, run-same, run-append}
 use Rattle.dayfile.proofs.Fields.{bytes-fields, fields-run, fields-length, flat-grid}
@@ -211,19 +212,31 @@ module _ (f : List ℕ) (s : Sound f) where
   sheet-body none q = refl
   sheet-body (some e) q = ap some (grid-body e (entry-size 4 e q))
 
-  tail-is : optParts (sheetOf f) ≡ pieces-from 3
-  unfolding optParts sheetOf
+  -- a first seat is the one field of its body
+  one-field : (at n : ℕ) → n ≡ 1 → field f at ∷ [] ≡ fieldsAt f at n
+  unfolding fieldsAt table
+  one-field at n e =
+      ap (λ (i : ℕ). field f i ∷ []) {x = at} {y = at + 2 * 0} (omega arith) ∙ ap (fieldsAt f at) {x = 1} {y = n} (sym e)
+
+  seat-body : (r : Option ℕ) → entryOf f 5 ≡ r → oneIf (andThen r (λ e. some (field f (start f e)))) ≡ bodyIf r
+  seat-body none q = refl
+  seat-body (some e) q = ap some (one-field (start f e) (size f e / 2) (entry-size 5 e q))
+
+  tail-is : optParts (bookOf f) (sheetOf f) ≡ pieces-from 3
+  unfolding optParts sheetOf bookOf firstIn
   tail-is =
       let first = split-first f (s .order) in
       let four = peel 3 4 first in
-      peel-as 3 4 first (sheet-body (entryOf f 4) refl) (no-more (four .next) (four .split))
+      let five = peel (four .next) 5 (four .split) in
+      peel-as 3 4 first (sheet-body (entryOf f 4) refl)
+      (peel-as (four .next) 5 (four .split) (seat-body (entryOf f 5) refl) (no-more (five .next) (five .split)))
 
   parts-are : partsOf (bookOf f) (sheetOf f) ≡ run piece 0 (count f)
   unfolding partsOf bookOf run
   parts-are =
       let m = s .order .many in
       let caps : List ℕ = flat (gridIn f 2) in
-      let rest : List Part = part 3 caps ∷ optParts (sheetOf f) in
+      let rest : List Part = part 3 caps ∷ optParts (bookOf f) (sheetOf f) in
       ap₂ (λ (a b : ℕ). part a (bodyOf 0) ∷ part b (bodyOf 1) ∷ rest) (sym (kind-one f (s .order))) (sym (kind-two f (s .order)))
       ∙ ap₂ (λ (p : Part) (r : List Part). piece 0 ∷ piece 1 ∷ p ∷ r) cap-part tail-is
       ∙ ap (run piece 0) {x = suc (suc (suc (count f - 3)))} {y = count f} (omega arith)

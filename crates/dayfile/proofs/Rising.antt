@@ -148,6 +148,30 @@ module _ (f : List ℕ) (o : InOrder f) where
           let r = rise e j (omega arith) q m in
           let a = s .above e (omega arith) (omega arith) in omega arith
 
+  -- an entry of a kind above 3 is the one that is found
+  split-at : (e k : ℕ) → 4 ≤ k → e < count f → kind f e ≡ k → Split e k
+  split-at e k h l q =
+      record {
+        front = elim (decLt e 3) [ yes m ↦ absurd (let b = split-first .below e m in omega arith) | no m ↦ omega arith ];
+        inside = omega arith;
+        below = λ j m.
+            elim (decLt j 3) [
+              | yes n ↦ (let b = split-first .below j n in omega arith)
+              | no n ↦ (let r = rise j e (omega arith) m l in omega arith)
+            ];
+        above = λ j m n. ⊎-elim (λ p. let s = ap (kind f) p in omega arith) (λ p. after j p n) (eq-or-lt-of-le m);
+      }
+    where
+      after : (j : ℕ) → e < j → j < count f → k ≤ kind f j
+      after j p n =
+          elim (decLt e 3) [
+            | yes m ↦ absurd (let b = split-first .below e m in omega arith)
+            | no m ↦ (let r = rise e j (omega arith) p n in omega arith)
+          ]
+
+  pub entry-is : (e k : ℕ) → 4 ≤ k → e < count f → kind f e ≡ k → entryOf f k ≡ some e
+  entry-is e k h l q = hit e k (split-at e k h l q) l q
+
   -- past the last kind there are no entries left
   pub split-last : (e : ℕ) → Split e (suc known) → e ≡ count f
   split-last e s =

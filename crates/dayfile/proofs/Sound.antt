@@ -3,7 +3,7 @@
 use mathlib.Core.Bool.{Bool, true, false, not, cond}
 use mathlib.Core.List.{List, [], _∷_, _++_}
 use mathlib.Core.Logic.{⊎-elim}
-use mathlib.Core.Option.{none}
+use mathlib.Core.Option.{Option, none, some}
 use mathlib.Core.Path.{_≡_, refl, sym, _∙_, ap}
 use Prim.Native.Nat.{ℕ, zero, suc, _+_, _*_, _%_, _≤_, _<_}
 use native.Mathlib.Nat.{eq-or-lt-of-le}
@@ -11,23 +11,24 @@ use native.Mathlib.Omega.{arith}
 use lib.Dec.{eqb}
 use lib.ListN.{length, getD}
 use borrow.Author.Tests.{eqb-true, ltb-false, not-false}
-use Rattle.model.specs.Lowest.{when, lowest}
+use Rattle.model.specs.Lowest.{when, orElse, andThen, lowest}
 use Rattle.model.proofs.Lowest.{lowest-none}
 use Rattle.model.proofs.Tests.{and-true}
 use Rattle.dayfile.specs.Layout.{field, count, contentsEnd, kind, start, size, ends, seatsIn, windowsIn, kindAt, startAt, sizeAt}
+use Rattle.dayfile.specs.Layout.{entryOf}
 use Rattle.dayfile.specs.Table.{firstOf, within, offset, known, kindRight, sizeRight, gridRight, outside}
 use Rattle.dayfile.specs.Table.{line1, line2, line3, line4, line5, line6, line7, line8, line9, line10, line11, line12}
-use Rattle.dayfile.specs.Table.{contentsLines, lengthLines, valueLines, optionLines, readLines}
+use Rattle.dayfile.specs.Table.{wrongSeat, line18, contentsLines, lengthLines, valueLines, optionLines, readLines}
 use Rattle.dayfile.proofs.Tests.{within-low, within-high, when-none}
 use Rattle.dayfile.proofs.Search.{offset-none}
 use Rattle.dayfile.proofs.Lines.{none-holds, none-parts}
-use Rattle.dayfile.proofs.Rising.{InOrder, kind-one, kind-two, kind-three, kind-most, split-first}
+use Rattle.dayfile.proofs.Rising.{InOrder, kind-one, kind-two, kind-three, kind-most, split-first, entry-is}
 
 -- how many fields a body of kind k has: the kinds count from 0, which is none
 abbrev pub bodyFields : List ℕ → ℕ → ℕ
 bodyFields f k =
     let n : ℕ = seatsIn f in
-    let m : ℕ = windowsIn f in getD (0 ∷ n ∷ m ∷ n * m ∷ n * m ∷ []) k 0
+    let m : ℕ = windowsIn f in getD (0 ∷ n ∷ m ∷ n * m ∷ n * m ∷ 1 ∷ []) k 0
 
 -- each of n fields from an offset on is low to high
 abbrev pub FieldsWithin : List ℕ → ℕ → ℕ → ℕ → ℕ → Type 0
@@ -46,6 +47,7 @@ pub record Sound (f : List ℕ) : Type 0 where
   pub classes : FieldsWithin f (start f 0) (seatsIn f) 1 8
   pub supplies : FieldsWithin f (start f 1) (windowsIn f) 0 4095
   pub caps : FieldsWithin f (start f 2) (seatsIn f * windowsIn f) 0 4095
+  pub first : (e : ℕ) → entryOf f 5 ≡ some e → within 1 (seatsIn f) (field f (start f e)) ≡ true
 
 -- ---- line by line
 
@@ -89,6 +91,25 @@ grid-size f e g k =
     let cells : ℕ = 2 * (seatsIn f * windowsIn f) in
     eqb-true (size f e) cells (cond-when (within 3 4 (kind f e)) (eqb (size f e) cells) true g k)
 
+-- the first of two lines that do not hold, and the second
+neither : (o p : Option ℕ) → orElse o p ≡ none → (o ≡ none) × (p ≡ none)
+neither none p e = (refl, e)
+neither (some x) p e = absurd (let z : _≡_ {A = ℕ} 0 1 = cc in omega arith)
+
+-- the entry of the first seat has one field, a seat of the book
+record OneSeat (f : List ℕ) (e : ℕ) : Type 0 where
+  long : size f e ≡ 2
+  seat : within 1 (seatsIn f) (field f (start f e)) ≡ true
+
+one-seat : (f : List ℕ) (e : ℕ) → line18 f ≡ none → entryOf f 5 ≡ some e → OneSeat f e
+unfolding line18 wrongSeat
+one-seat f e h q =
+    let both = neither _ _ (ap (λ (r : Option ℕ). andThen r (wrongSeat f)) (sym q) ∙ h) in
+    record {
+      long = eqb-true (size f e) 2 (kept (eqb (size f e) 2) (sizeAt e) (both .0));
+      seat = kept (within 1 (seatsIn f) (field f (start f e))) (start f e) (both .1);
+    }
+
 -- ---- the length of each body, by its kind: one step for each kind from 3 on
 
 module _ (f : List ℕ) (o : InOrder f) where
@@ -126,11 +147,12 @@ module _ (f : List ℕ) (free : firstOf (readLines f) ≡ none) where
       let c = none-parts (valueLines f) (optionLines f) (b .1) in (a .0, b .0, c .0, c .1)
 
   pub sound : Sound f
-  unfolding contentsLines lengthLines valueLines line1 line2 line3 line4 line5 line6 line7 line8 line9 line10 line11 line12
+  unfolding contentsLines lengthLines valueLines optionLines line1 line2 line3 line4 line5 line6 line7 line8 line9 line10 line11 line12
   sound =
       let n = none-holds (contentsLines f) (parts .0) in
       let l = none-holds (lengthLines f) (parts .1) in
       let v = none-holds (valueLines f) (parts .2) in
+      let w = none-holds (optionLines f) (parts .3) in
       let two = kept (within 3 known (count f)) 0 (n .1 .0) in
       let seven = even-size 2 64 (size f 0) (sizeAt 0) (l .0) in
       let eight = even-size 2 48 (size f 1) (sizeAt 1) (l .1 .0) in
@@ -141,6 +163,8 @@ module _ (f : List ℕ) (free : firstOf (readLines f) ≡ none) where
       let ev8 = eight .even in
       let nine : (k : ℕ) → within 3 4 k ≡ true → (e : ℕ) → e < count f → kind f e ≡ k → size f e ≡ 2 * (seatsIn f * windowsIn f) =
       λ k g e h q. grid-size f e (all-right sizeAt (gridRight f) (count f) (l .1 .1 .0) e h) (ap (within 3 4) q ∙ g) in
+      let one : (e : ℕ) → e < count f → kind f e ≡ 5 → size f e ≡ 2 * 1 =
+      λ e h q. one-seat f e (w .0) (entry-is f o e 5 (omega arith) h q) .long in
       record {
         order = o;
         room = ltb-false (length f) (contentsEnd (count f)) (when-none _ (length f) (n .1 .1 .0));
@@ -151,8 +175,9 @@ module _ (f : List ℕ) (free : firstOf (readLines f) ≡ none) where
         windows-low = eight .least;
         windows-high = eight .most;
         sizes = sized-all f o (omega arith) (omega arith)
-            (sized-step f o 3 (nine 3 refl) (sized-step f o 4 (nine 4 refl) (sized-last f o)));
+            (sized-step f o 3 (nine 3 refl) (sized-step f o 4 (nine 4 refl) (sized-step f o 5 one (sized-last f o))));
         classes = none-outside f (start f 0) (seatsIn f) 1 8 (v .0);
         supplies = none-outside f (start f 1) (windowsIn f) 0 4095 (v .1 .0);
         caps = none-outside f (start f 2) (seatsIn f * windowsIn f) 0 4095 (v .1 .1 .0);
+        first = λ e q. one-seat f e (w .0) q .seat;
       }

@@ -1,7 +1,7 @@
 -- A book and a sheet that fit, written and read, are the same: no line of the table turns the file away.
 -- Assumes nothing.
 use mathlib.Core.Bool.{Bool, true, false, not, cond, _&&_}
-use mathlib.Core.List.{List, [], _∷_}
+use mathlib.Core.List.{List, [], _∷_, _++_}
 use mathlib.Core.Option.{Option, none, some}
 use mathlib.Core.Path.{_≡_, refl, sym, _∙_, ap, ap₂}
 use Prim.Native.Nat.{ℕ, zero, suc, _+_, _-_, _*_, _%_, _≤_, _<_, zero-le}
@@ -9,23 +9,23 @@ use native.Mathlib.Omega.{arith}
 use lib.Dec.{eqb}
 use lib.ListN.{length, getD}
 use borrow.Author.Tests.{eq-eqb, le-ltb}
-use Rattle.model.specs.Lowest.{lowest, when, andThen}
+use Rattle.model.specs.Lowest.{lowest, when, orElse, andThen}
 use Rattle.model.specs.Book.{Book, Grid, Shaped, seats, windows}
 use Rattle.model.proofs.Lowest.{lowest-fails}
-use Rattle.dayfile.specs.Bounds.{Fit, SheetFit}
+use Rattle.dayfile.specs.Bounds.{Fit, FirstFit, SheetFit}
 use Rattle.dayfile.specs.Layout.{field, count, contentsEnd, kind, start, size, ends, seatsIn, windowsIn, kindAt, startAt, sizeAt}
-use Rattle.dayfile.specs.Layout.{entryOf, fieldsAt, gridAt, gridIn, bookOf, sheetOf}
-use Rattle.dayfile.specs.File.{Part, part, partsOf, flatIf, optParts, flat, assemble, fileOf}
+use Rattle.dayfile.specs.Layout.{entryOf, fieldsAt, gridAt, gridIn, firstIn, bookOf, sheetOf}
+use Rattle.dayfile.specs.File.{Part, part, partsOf, flatIf, oneIf, optPart, optParts, flat, assemble, fileOf}
 use Rattle.dayfile.specs.Table.{firstOf, within, offset, known, kindRight, sizeRight, gridRight, outside}
 use Rattle.dayfile.specs.Table.{line1, line2, line3, line4, line5, line6, line7, line8, line9, line10, line11, line12}
-use Rattle.dayfile.specs.Table.{contentsLines, lengthLines, valueLines, optionLines, readLines}
+use Rattle.dayfile.specs.Table.{wrongSeat, line18, contentsLines, lengthLines, valueLines, optionLines, readLines}
 use Rattle.dayfile.proofs.Tests.{is-within, cond-no}
 use Rattle.dayfile.proofs.Fields.{fields-at}
 use Rattle.dayfile.proofs.Grids.{flat-length, flat-cell, grid-there}
-use Rattle.dayfile.proofs.Container.{nth, before-all, file-size, count-is, kind-is, start-is, size-is, ends-is, body-is}
+use Rattle.dayfile.proofs.Container.{nth, before-none, before-all, file-size, count-is, kind-is, start-is, size-is, ends-is, body-is}
 use Rattle.dayfile.proofs.Rising.{InOrder, split-first}
 use Rattle.dayfile.proofs.Optional.{Above, above-opt, above-next, Each, each-nth, each-opt, IfThere, few-opt}
-use Rattle.dayfile.proofs.Optional.{BodyAt, Looked, look}
+use Rattle.dayfile.proofs.Optional.{lengthIf, BodyAt, Looked, look}
 
 -- each number of a list is low to high
 abbrev pub AllWithin : ℕ → ℕ → List ℕ → Type 0
@@ -51,9 +51,14 @@ sheet-grid : (b : Book) (o : Option Grid) → SheetFit b o
 sheet-grid b none s = tt
 sheet-grid b (some g) s = λ h. flat-length (seats b) (windows b) g s
 
-module _ (b : Book) (o : Option Grid) (fit : Fit b) (sheet : SheetFit b o) where
+-- and kind 5 has none
+seat-grid : (n : ℕ) (k : Option ℕ) → IfThere (λ xs. GridPart n (part 5 xs)) (oneIf k)
+seat-grid n none = tt
+seat-grid n (some x) = λ h. absurd (let z : _≡_ {A = ℕ} 0 1 = cc in omega arith)
+
+module _ (b : Book) (o : Option Grid) where
   abbrev ps : List Part
-  ps = part 1 (b .classes) ∷ part 2 (b .supplies) ∷ part 3 (flat (b .caps)) ∷ optParts o
+  ps = part 1 (b .classes) ∷ part 2 (b .supplies) ∷ part 3 (flat (b .caps)) ∷ optParts b o
 
   abbrev f : List ℕ
   f = assemble (length ps) ps
@@ -66,17 +71,19 @@ module _ (b : Book) (o : Option Grid) (fit : Fit b) (sheet : SheetFit b o) where
 
   -- ---- the parts that may be missing
 
-  rising : Above 4 (optParts o)
-  unfolding optParts
-  rising = above-opt 4 (flatIf o) [] (omega arith) tt
+  abbrev tail : List Part
+  tail = optPart 5 (oneIf (b .first)) ++ []
 
-  grids : Each (GridPart (S * W)) (optParts o)
+  tail-above : Above 5 tail
+  tail-above = above-opt 5 (oneIf (b .first)) [] (omega arith) tt
+
+  rising : Above 4 (optParts b o)
   unfolding optParts
-  grids = each-opt (GridPart (S * W)) 4 (flatIf o) [] (sheet-grid b o sheet) tt
+  rising = above-opt 4 (flatIf o) tail (omega arith) tail-above
 
   few : length ps ≤ known
   unfolding optParts
-  few = let e = few-opt 4 (flatIf o) [] in omega arith
+  few = let e = few-opt 4 (flatIf o) tail in let g = few-opt 5 (oneIf (b .first)) [] in omega arith
 
   -- ---- the file
 
@@ -109,35 +116,11 @@ module _ (b : Book) (o : Option Grid) (fit : Fit b) (sheet : SheetFit b o) where
   windows-f : windowsIn f ≡ W
   windows-f = let e = size-f 1 (omega arith) in omega arith
 
-  cells : seatsIn f * windowsIn f ≡ S * W
-  cells = ap₂ (λ (x y : ℕ). x * y) seats-f windows-f
-
-  caps-f : length (flat (b .caps)) ≡ S * W
-  caps-f = flat-length S W (b .caps) (fit .cap-shape)
-
-  -- ---- line by line: contents
-
-  at1 : line1 f ≡ none
-  unfolding line1
-  at1 = let r = room in ap (λ (t : Bool). when t (length f)) (le-ltb (length f) 2 (omega arith))
-
-  at2 : line2 f ≡ none
-  unfolding line2
-  at2 =
-      ap (λ (t : Bool). when (not t) 0)
-      (ap (within 3 known) count-f ∙ is-within 3 known (length ps) (omega arith) few)
-
-  at3 : line3 f ≡ none
-  unfolding line3
-  at3 =
-      let r = room in
-      let e = count-f in ap (λ (t : Bool). when t (length f)) (le-ltb (length f) (contentsEnd (count f)) (omega arith))
-
   kind-after : (e : ℕ) → suc (suc (suc e)) < length ps → kindRight f (suc (suc (suc e))) ≡ true
   unfolding kindRight
   kind-after e h =
       let k : ℕ = suc (suc (suc e)) in
-      let n = above-next (part 3 (flat (b .caps))) (optParts o) rising e (omega arith) in
+      let n = above-next (part 3 (flat (b .caps))) (optParts b o) rising e (omega arith) in
       let one = kind-f (suc (suc e)) (omega arith) in
       let two = kind-f k h in
       let same = ap (kind f) {x = k - 1} {y = suc (suc e)} (omega arith) in
@@ -151,137 +134,240 @@ module _ (b : Book) (o : Option Grid) (fit : Fit b) (sheet : SheetFit b o) where
   kind-right-f (suc (suc zero)) h = eq-eqb (kind f 2) 3 (kind-f 2 h)
   kind-right-f (suc (suc (suc e))) h = kind-after e h
 
-  -- a test that each entry passes
-  none-at : (at : ℕ → ℕ) (right : ℕ → Bool) → ((e : ℕ) → e < length ps → right e ≡ true)
-      → offset at (lowest (count f) (λ e. not (right e))) ≡ none
-  none-at at right h =
-      let c = count-f in ap (offset at) (lowest-fails (count f) (λ e. not (right e)) (λ e l. ap not (h e (omega arith))))
-
-  at4 : line4 f ≡ none
-  unfolding line4
-  at4 = none-at kindAt (kindRight f) kind-right-f
-
-  at5 : line5 f ≡ none
-  unfolding line5
-  at5 = none-at startAt (λ e. eqb (start f e) (ends f e)) (λ e h. eq-eqb (start f e) (ends f e) (start-f e h))
-
-  at6 : line6 f ≡ none
-  unfolding line6
-  at6 =
-      ap (λ (t : Bool). when (not t) (length f)) (eq-eqb (ends f (count f)) (length f) (ap (ends f) count-f ∙ end-f))
-
-  -- ---- body lengths
-
-  even-right : (low high n : ℕ) → low ≤ 2 * n → 2 * n ≤ high → sizeRight low high (2 * n) ≡ true
-  unfolding sizeRight
-  even-right low high n h k =
-      ap₂ (λ (x y : Bool). x && y) (is-within low high (2 * n) h k) (eq-eqb (2 * n % 2) 0 (omega arith))
-
-  size-none : (e high n : ℕ) → size f e ≡ 2 * n → 1 ≤ n → 2 * n ≤ high → when (not (sizeRight 2 high (size f e))) (sizeAt e) ≡ none
-  size-none e high n q l h =
-      ap (λ (t : Bool). when (not t) (sizeAt e)) (ap (sizeRight 2 high) q ∙ even-right 2 high n (omega arith) h)
-
-  at7 : line7 f ≡ none
-  unfolding line7
-  at7 = size-none 0 64 S (size-f 0 (omega arith)) (fit .seats-low) (omega (arith, fit .seats-high))
-
-  at8 : line8 f ≡ none
-  unfolding line8
-  at8 = size-none 1 48 W (size-f 1 (omega arith)) (fit .windows-low) (omega (arith, fit .windows-high))
-
-  grid-if : (e : ℕ) → e < length ps → (t : Bool) → within 3 4 (nth ps e .sort) ≡ t
-      → (within 3 4 (nth ps e .sort) ≡ true → length (nth ps e .body) ≡ S * W)
-      → cond t (eqb (size f e) (2 * (seatsIn f * windowsIn f))) true ≡ true
-  grid-if e h false q g = refl
-  grid-if e h true q g =
-      eq-eqb (size f e) (2 * (seatsIn f * windowsIn f)) (let a = size-f e h in let l = g q in let c = cells in omega arith)
-
-  grid-part : (e : ℕ) → e < length ps → GridPart (S * W) (nth ps e)
-  grid-part zero h = λ q. let z : _≡_ {A = ℕ} 0 1 = cc in absurd (omega arith)
-  grid-part (suc zero) h = λ q. let z : _≡_ {A = ℕ} 0 1 = cc in absurd (omega arith)
-  grid-part (suc (suc zero)) h = λ q. caps-f
-  grid-part (suc (suc (suc e))) h = each-nth (GridPart (S * W)) (optParts o) grids e (omega arith)
-
-  grid-right-f : (e : ℕ) → e < length ps → gridRight f e ≡ true
-  unfolding gridRight
-  grid-right-f e h =
-      ap (λ (k : ℕ). cond (within 3 4 k) (eqb (size f e) (2 * (seatsIn f * windowsIn f))) true) (kind-f e h)
-      ∙ grid-if e h (within 3 4 (nth ps e .sort)) refl (grid-part e h)
-
-  at9 : line9 f ≡ none
-  unfolding line9
-  at9 = none-at sizeAt (gridRight f) grid-right-f
-
-  -- ---- values
-
-  at10 : line10 f ≡ none
-  unfolding line10
-  at10 =
-      outside-none f (start f 0) (seatsIn f) 1 8 (b .classes) seats-f (body-f 0 (omega arith))
-      (λ i h. is-within 1 8 (getD (b .classes) i 0) (fit .class-low i h) (fit .class-high i h))
-
-  at11 : line11 f ≡ none
-  unfolding line11
-  at11 =
-      outside-none f (start f 1) (windowsIn f) 0 4095 (b .supplies) windows-f (body-f 1 (omega arith))
-      (λ i h. is-within 0 4095 (getD (b .supplies) i 0) zero-le (fit .supply-high i h))
-
-  at12 : line12 f ≡ none
-  unfolding line12
-  at12 =
-      outside-none f (start f 2) (seatsIn f * windowsIn f) 0 4095 (flat (b .caps)) (cells ∙ sym caps-f) (body-f 2 (omega arith))
-      (flat-cell S W (b .caps) (fit .cap-shape) (λ x. within 0 4095 x ≡ true)
-      (λ i j h k. is-within 0 4095 _ zero-le (fit .cap-high i j h k)))
-
-  no-line : firstOf (readLines f) ≡ none
-  unfolding readLines contentsLines lengthLines valueLines optionLines
-  no-line = rw (at1, at2, at3, at4, at5, at6, at7, at8, at9, at10, at11, at12)
-
-  -- ---- what the file holds
-
-  abbrev made : List ℕ → List ℕ → Grid → Book
-  made x y z = record { classes = x; supplies = y; caps = z }
-
-  grid-f : (e : ℕ) (g : Grid) → e < length ps → nth ps e .body ≡ flat g → Shaped S W g
-      → gridIn f e ≡ g
-  grid-f e g h q s =
-      ap₂ (gridAt f (start f e)) seats-f windows-f
-      ∙ grid-there f (start f e) S W g s
-      (ap (λ (xs : List ℕ). fieldsAt f (start f e) (length xs)) (sym q) ∙ body-f e h ∙ q)
-
-  book-is : bookOf f ≡ b
-  unfolding bookOf
-  book-is =
-      ap₂ (λ (x y : List ℕ). made x y (gridIn f 2))
-      (ap (fieldsAt f (start f 0)) seats-f ∙ body-f 0 (omega arith))
-      (ap (fieldsAt f (start f 1)) windows-f ∙ body-f 1 (omega arith))
-      ∙ ap (made (b .classes) (b .supplies)) (grid-f 2 (b .caps) (omega arith) refl (fit .cap-shape))
-
   order-f : InOrder f
   order-f = let c = count-f in record { many = omega arith; right = λ e h. kind-right-f e (omega arith) }
 
-  sheet-look : Looked (length ps) ps refl order-f 4 (flatIf o) []
+  -- ---- where the parts that may be missing lie
+
+  -- how many fields stand before the sheet's body, and before the first seat's
+  abbrev lists : ℕ
+  lists = S + W + length (flat (b .caps))
+
+  abbrev ahead : ℕ
+  ahead = lists + lengthIf (flatIf o)
+
+  -- a body of that many fields before it, at an entry, or neither
+  abbrev At : ℕ → Option ℕ → Option (List ℕ) → Type 0
+  At = BodyAt (length ps) ps refl order-f
+
+  sheet-look : Looked (length ps) ps refl order-f 4 lists (flatIf o) tail
   unfolding optParts
   sheet-look =
-      look (length ps) ps refl order-f 3 4 (flatIf o) [] (split-first f order-f)
-      (record { long = omega arith; same = λ i. ap (nth ps) {x = 3 + i} {y = suc (suc (suc i))} (omega arith) }) tt
+      look (length ps) ps refl order-f 3 4 lists (flatIf o) tail (split-first f order-f)
+      (record {
+        long = omega arith;
+        same = λ i. ap (nth ps) {x = 3 + i} {y = suc (suc (suc i))} (omega arith);
+        ahead = omega (arith, before-none (optParts b o));
+      }) tail-above
 
-  -- a grid of a kind that may be missing
-  grid-at : (r : Option ℕ) (g : Option Grid) → SheetFit b g → BodyAt (length ps) ps refl order-f r (flatIf g)
-      → andThen r (λ e. some (gridIn f e)) ≡ g
-  grid-at none none p h = refl
-  grid-at none (some g) p h = absurd h
-  grid-at (some e) none p h = absurd h
-  grid-at (some e) (some g) p h = ap some (grid-f e g (h .0) (h .1) p)
+  first-look : Looked (length ps) ps refl order-f 5 ahead (oneIf (b .first)) []
+  first-look =
+      look (length ps) ps refl order-f (sheet-look .next) 5 ahead (oneIf (b .first)) [] (sheet-look .split) (sheet-look .tail) tt
 
-  pub written-free : firstOf (readLines (fileOf b o)) ≡ none
-  unfolding fileOf partsOf
-  written-free = no-line
+  -- a body of one number
+  one-f : (e x : ℕ) → e < length ps → nth ps e .body ≡ x ∷ [] → field f (start f e) ≡ x
+  one-f e x h q =
+      let at : ℕ = start f e in
+      let n : ℕ = length (nth ps e .body) in
+      let long = ap (λ (xs : List ℕ). length xs) q in
+      ap (field f) {x = at} {y = at + 2 * 0} (omega arith)
+      ∙ sym (fields-at f at n 0 (omega arith))
+      ∙ ap (λ (xs : List ℕ). getD xs 0 0) (body-f e h ∙ q)
 
-  pub written-book : bookOf (fileOf b o) ≡ b
-  unfolding fileOf partsOf
-  written-book = book-is
+  -- line 18: the value alone can be wrong
+  seat-line : (r k : Option ℕ) → At ahead r (oneIf k)
+      → andThen r (wrongSeat f) ≡ andThen k (λ x. when (not (within 1 S x)) (contentsEnd (length ps) + 2 * ahead))
+  unfolding wrongSeat
+  seat-line none none h = refl
+  seat-line none (some x) h = absurd h
+  seat-line (some e) none h = absurd h
+  seat-line (some e) (some x) h =
+      let long : size f e ≡ 2 = size-f e (h .0) ∙ ap (λ (xs : List ℕ). 2 * length xs) (h .1) in
+      let at : start f e ≡ contentsEnd (length ps) + 2 * ahead =
+      start-is (length ps) ps refl e (h .0) ∙ ap (λ (i : ℕ). contentsEnd (length ps) + 2 * i) (h .2) in
+      let value : Option ℕ = when (not (within 1 (seatsIn f) (field f (start f e)))) (start f e) in
+      ap (λ (t : Bool). orElse (when (not t) (sizeAt e)) value) (eq-eqb (size f e) 2 long)
+      ∙ ap (λ (n : ℕ). when (not (within 1 n (field f (start f e)))) (start f e)) seats-f
+      ∙ ap₂ (λ (y z : ℕ). when (not (within 1 S y)) z) (one-f e x (h .0) (h .1)) at
 
-  pub written-sheet : sheetOf (fileOf b o) ≡ o
-  unfolding fileOf partsOf sheetOf
-  written-sheet = grid-at (entryOf f 4) o sheet (sheet-look .body)
+  pub first-line : line18 (fileOf b o)
+      ≡ andThen (b .first) (λ x. when (not (within 1 (seats b) x))
+      (contentsEnd (length (partsOf b o)) + 2 * (seats b + windows b + length (flat (b .caps)) + lengthIf (flatIf o))))
+  unfolding fileOf partsOf line18
+  first-line = seat-line (entryOf f 5) (b .first) (first-look .body)
+
+  module _ (fit : Fit b) (sheet : SheetFit b o) where
+    -- ---- the parts that may be missing
+
+    grids : Each (GridPart (S * W)) (optParts b o)
+    unfolding optParts
+    grids =
+        each-opt (GridPart (S * W)) 4 (flatIf o) tail (sheet-grid b o sheet)
+        (each-opt (GridPart (S * W)) 5 (oneIf (b .first)) [] (seat-grid (S * W) (b .first)) tt)
+
+    cells : seatsIn f * windowsIn f ≡ S * W
+    cells = ap₂ (λ (x y : ℕ). x * y) seats-f windows-f
+
+    caps-f : length (flat (b .caps)) ≡ S * W
+    caps-f = flat-length S W (b .caps) (fit .cap-shape)
+
+    -- ---- line by line: contents
+
+    at1 : line1 f ≡ none
+    unfolding line1
+    at1 = let r = room in ap (λ (t : Bool). when t (length f)) (le-ltb (length f) 2 (omega arith))
+
+    at2 : line2 f ≡ none
+    unfolding line2
+    at2 =
+        ap (λ (t : Bool). when (not t) 0)
+        (ap (within 3 known) count-f ∙ is-within 3 known (length ps) (omega arith) few)
+
+    at3 : line3 f ≡ none
+    unfolding line3
+    at3 =
+        let r = room in
+        let e = count-f in ap (λ (t : Bool). when t (length f)) (le-ltb (length f) (contentsEnd (count f)) (omega arith))
+
+    -- a test that each entry passes
+    none-at : (at : ℕ → ℕ) (right : ℕ → Bool) → ((e : ℕ) → e < length ps → right e ≡ true)
+        → offset at (lowest (count f) (λ e. not (right e))) ≡ none
+    none-at at right h =
+        let c = count-f in ap (offset at) (lowest-fails (count f) (λ e. not (right e)) (λ e l. ap not (h e (omega arith))))
+
+    at4 : line4 f ≡ none
+    unfolding line4
+    at4 = none-at kindAt (kindRight f) kind-right-f
+
+    at5 : line5 f ≡ none
+    unfolding line5
+    at5 = none-at startAt (λ e. eqb (start f e) (ends f e)) (λ e h. eq-eqb (start f e) (ends f e) (start-f e h))
+
+    at6 : line6 f ≡ none
+    unfolding line6
+    at6 =
+        ap (λ (t : Bool). when (not t) (length f)) (eq-eqb (ends f (count f)) (length f) (ap (ends f) count-f ∙ end-f))
+
+    -- ---- body lengths
+
+    even-right : (low high n : ℕ) → low ≤ 2 * n → 2 * n ≤ high → sizeRight low high (2 * n) ≡ true
+    unfolding sizeRight
+    even-right low high n h k =
+        ap₂ (λ (x y : Bool). x && y) (is-within low high (2 * n) h k) (eq-eqb (2 * n % 2) 0 (omega arith))
+
+    size-none : (e high n : ℕ) → size f e ≡ 2 * n → 1 ≤ n → 2 * n ≤ high → when (not (sizeRight 2 high (size f e))) (sizeAt e) ≡ none
+    size-none e high n q l h =
+        ap (λ (t : Bool). when (not t) (sizeAt e)) (ap (sizeRight 2 high) q ∙ even-right 2 high n (omega arith) h)
+
+    at7 : line7 f ≡ none
+    unfolding line7
+    at7 = size-none 0 64 S (size-f 0 (omega arith)) (fit .seats-low) (omega (arith, fit .seats-high))
+
+    at8 : line8 f ≡ none
+    unfolding line8
+    at8 = size-none 1 48 W (size-f 1 (omega arith)) (fit .windows-low) (omega (arith, fit .windows-high))
+
+    grid-if : (e : ℕ) → e < length ps → (t : Bool) → within 3 4 (nth ps e .sort) ≡ t
+        → (within 3 4 (nth ps e .sort) ≡ true → length (nth ps e .body) ≡ S * W)
+        → cond t (eqb (size f e) (2 * (seatsIn f * windowsIn f))) true ≡ true
+    grid-if e h false q g = refl
+    grid-if e h true q g =
+        eq-eqb (size f e) (2 * (seatsIn f * windowsIn f)) (let a = size-f e h in let l = g q in let c = cells in omega arith)
+
+    grid-part : (e : ℕ) → e < length ps → GridPart (S * W) (nth ps e)
+    grid-part zero h = λ q. let z : _≡_ {A = ℕ} 0 1 = cc in absurd (omega arith)
+    grid-part (suc zero) h = λ q. let z : _≡_ {A = ℕ} 0 1 = cc in absurd (omega arith)
+    grid-part (suc (suc zero)) h = λ q. caps-f
+    grid-part (suc (suc (suc e))) h = each-nth (GridPart (S * W)) (optParts b o) grids e (omega arith)
+
+    grid-right-f : (e : ℕ) → e < length ps → gridRight f e ≡ true
+    unfolding gridRight
+    grid-right-f e h =
+        ap (λ (k : ℕ). cond (within 3 4 k) (eqb (size f e) (2 * (seatsIn f * windowsIn f))) true) (kind-f e h)
+        ∙ grid-if e h (within 3 4 (nth ps e .sort)) refl (grid-part e h)
+
+    at9 : line9 f ≡ none
+    unfolding line9
+    at9 = none-at sizeAt (gridRight f) grid-right-f
+
+    -- ---- values
+
+    at10 : line10 f ≡ none
+    unfolding line10
+    at10 =
+        outside-none f (start f 0) (seatsIn f) 1 8 (b .classes) seats-f (body-f 0 (omega arith))
+        (λ i h. is-within 1 8 (getD (b .classes) i 0) (fit .class-low i h) (fit .class-high i h))
+
+    at11 : line11 f ≡ none
+    unfolding line11
+    at11 =
+        outside-none f (start f 1) (windowsIn f) 0 4095 (b .supplies) windows-f (body-f 1 (omega arith))
+        (λ i h. is-within 0 4095 (getD (b .supplies) i 0) zero-le (fit .supply-high i h))
+
+    at12 : line12 f ≡ none
+    unfolding line12
+    at12 =
+        outside-none f (start f 2) (seatsIn f * windowsIn f) 0 4095 (flat (b .caps)) (cells ∙ sym caps-f) (body-f 2 (omega arith))
+        (flat-cell S W (b .caps) (fit .cap-shape) (λ x. within 0 4095 x ≡ true)
+        (λ i j h k. is-within 0 4095 _ zero-le (fit .cap-high i j h k)))
+
+    -- ---- parts that may be missing
+
+    seat-none : (k : Option ℕ) (at : ℕ) → FirstFit S k → andThen k (λ x. when (not (within 1 S x)) at) ≡ none
+    seat-none none at h = refl
+    seat-none (some x) at h = ap (λ (t : Bool). when (not t) at) (is-within 1 S x (h .0) (h .1))
+
+    at18 : line18 f ≡ none
+    unfolding line18
+    at18 = seat-line (entryOf f 5) (b .first) (first-look .body) ∙ seat-none (b .first) _ (fit .first-seat)
+
+    no-line : firstOf (readLines f) ≡ none
+    unfolding readLines contentsLines lengthLines valueLines optionLines
+    no-line = rw (at1, at2, at3, at4, at5, at6, at7, at8, at9, at10, at11, at12, at18)
+
+    -- ---- what the file holds
+
+    abbrev made : List ℕ → List ℕ → Grid → Option ℕ → Book
+    made x y z k = record { classes = x; supplies = y; caps = z; first = k }
+
+    seat-at : (r k : Option ℕ) → At ahead r (oneIf k) → andThen r (λ e. some (field f (start f e))) ≡ k
+    seat-at none none h = refl
+    seat-at none (some x) h = absurd h
+    seat-at (some e) none h = absurd h
+    seat-at (some e) (some x) h = ap some (one-f e x (h .0) (h .1))
+
+    grid-f : (e : ℕ) (g : Grid) → e < length ps → nth ps e .body ≡ flat g → Shaped S W g
+        → gridIn f e ≡ g
+    grid-f e g h q s =
+        ap₂ (gridAt f (start f e)) seats-f windows-f
+        ∙ grid-there f (start f e) S W g s
+        (ap (λ (xs : List ℕ). fieldsAt f (start f e) (length xs)) (sym q) ∙ body-f e h ∙ q)
+
+    book-is : bookOf f ≡ b
+    unfolding bookOf firstIn
+    book-is =
+        ap₂ (λ (x y : List ℕ). made x y (gridIn f 2) (firstIn f))
+        (ap (fieldsAt f (start f 0)) seats-f ∙ body-f 0 (omega arith))
+        (ap (fieldsAt f (start f 1)) windows-f ∙ body-f 1 (omega arith))
+        ∙ ap₂ (made (b .classes) (b .supplies)) (grid-f 2 (b .caps) (omega arith) refl (fit .cap-shape))
+        (seat-at (entryOf f 5) (b .first) (first-look .body))
+
+    -- a grid of a kind that may be missing
+    grid-at : (r : Option ℕ) (g : Option Grid) → SheetFit b g → At lists r (flatIf g)
+        → andThen r (λ e. some (gridIn f e)) ≡ g
+    grid-at none none p h = refl
+    grid-at none (some g) p h = absurd h
+    grid-at (some e) none p h = absurd h
+    grid-at (some e) (some g) p h = ap some (grid-f e g (h .0) (h .1) p)
+
+    pub written-free : firstOf (readLines (fileOf b o)) ≡ none
+    unfolding fileOf partsOf
+    written-free = no-line
+
+    pub written-book : bookOf (fileOf b o) ≡ b
+    unfolding fileOf partsOf
+    written-book = book-is
+
+    pub written-sheet : sheetOf (fileOf b o) ≡ o
+    unfolding fileOf partsOf sheetOf
+    written-sheet = grid-at (entryOf f 4) o sheet (sheet-look .body)
