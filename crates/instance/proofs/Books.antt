@@ -1,5 +1,5 @@
 -- A loop that works out each seat's weight and place, and what its end tells of the book that is in memory. Assumes nothing.
-use mathlib.Core.Path.{_≡_, ap, sym, _∙_}
+use mathlib.Core.Path.{_≡_, ap, ap₂, sym, _∙_}
 use mathlib.Core.List.{List}
 use Prim.Native.Nat.{ℕ, _≤_, _<_}
 use native.Mathlib.Nat.{le-trans}
@@ -7,7 +7,9 @@ use native.Mathlib.Omega.{arith}
 use lib.ListN.{getD}
 use Rattle.lists.proofs.Arrays.{Filled, filled-at}
 use Rattle.fairness.specs.Classes.{ClassWeight, weightOf}
-use Rattle.model.specs.Book.{Grid, seats, windows, instanceOf}
+use Rattle.model.specs.Lowest.{when, getOr}
+use Rattle.model.specs.Book.{Grid, seats, windows, placeFrom, instanceOf}
+use Rattle.model.proofs.Books.{place-apart}
 use Rattle.dayfile.specs.Bounds.{Fit}
 use Rattle.dayfile.specs.Memory.{bookIn}
 use Rattle.dayfile.specs.declared.Book as Memory
@@ -37,22 +39,23 @@ module _ (m : Memory.Book) (caps : Grid) (fit : Fit (bookIn m caps)) where
 
 -- ---- the loop
 
--- the first k weights, which were ws₀ before, and the first k places are known
-abbrev pub Known : Memory.Book → List ℕ → List ℕ → ℕ → List ℕ → List ℕ → Type 0
-Known m ws₀ ps₀ k ws ps =
-    Filled (λ i w. ClassWeight (getD (m .classes) i 0) w) 0 32 (m .seats) ws₀ k ws × Filled (λ i p. p ≡ i) 0 32 (m .seats) ps₀ k ps
+-- the first k weights, which were ws₀ before, and the first k places in the order from a first seat on are known
+abbrev pub Known : Memory.Book → ℕ → List ℕ → List ℕ → ℕ → List ℕ → List ℕ → Type 0
+Known m first ws₀ ps₀ k ws ps =
+    Filled (λ i w. ClassWeight (getD (m .classes) i 0) w) 0 32 (m .seats) ws₀ k ws
+    × Filled (λ i p. p ≡ placeFrom first (m .seats) i) 0 32 (m .seats) ps₀ k ps
 
 -- ---- its end
 
-module _ (m : Memory.Book) (k : ℕ) (ws₀ ps₀ ws ps bs : List ℕ) (l : m .seats ≤ k) (known : Known m ws₀ ps₀ k ws ps)
-    (none : (i : ℕ) → getD bs i 0 ≡ 0) where
+module _ (m : Memory.Book) (k : ℕ) (first : ℕ) (ws₀ ps₀ ws ps bs : List ℕ) (l : m .seats ≤ k) (known : Known m first ws₀ ps₀ k ws ps)
+    (none : (i : ℕ) → getD bs i 0 ≡ 0) (named : first ≡ getOr (when (m .«has_first») (m .first)) 1) where
   abbrev made : Terms
   made = record { seats = m .seats; windows = m .windows; supplies = m .supplies; weights = ws; bases = bs; positions = ps }
 
   weight-at : (i : ℕ) → i < m .seats → ClassWeight (getD (m .classes) i 0) (getD ws i 0)
   weight-at = filled-at (known .0) l
 
-  position-at : (i : ℕ) → i < m .seats → getD ps i 0 ≡ i
+  position-at : (i : ℕ) → i < m .seats → getD ps i 0 ≡ placeFrom first (m .seats) i
   position-at = filled-at (known .1) l
 
   pub ranged : (caps : Grid) → Fit (bookIn m caps) → Ranged made
@@ -63,11 +66,11 @@ module _ (m : Memory.Book) (k : ℕ) (ws₀ ps₀ ws ps bs : List ℕ) (l : m .s
     weights-least = λ i li. weight-at i li .least;
     weights-most = λ i li. le-trans (weight-at i li .most) (omega arith);
     bases-most = λ i li. omega (arith, none i);
-    positions-differ = λ i j li lj e. sym (position-at i li) ∙ e ∙ position-at j lj;
+    positions-differ = λ i j li lj e. place-apart first (m .seats) i j li lj (sym (position-at i li) ∙ e ∙ position-at j lj);
   }
 
   pub told : (caps : Grid) → Told (instanceOf (bookIn m caps)) made caps
-  unfolding instanceOf
+  unfolding instanceOf bookIn
   told caps = record {
     seats-are = seats-in m caps;
     windows-are = windows-in m caps;
@@ -75,5 +78,5 @@ module _ (m : Memory.Book) (k : ℕ) (ws₀ ps₀ ws ps bs : List ℕ) (l : m .s
     supplies-are = supply-in m caps;
     weights-are = λ i li. ap weightOf (class-in m caps i li) ∙ sym (weight-at i li .exact);
     bases-are = λ i li. sym (none i);
-    positions-are = λ i li. sym (position-at i li);
+    positions-are = λ i li. ap₂ (λ (x n : ℕ). placeFrom x n i) (sym named) (seats-in m caps) ∙ sym (position-at i li);
   }

@@ -38,8 +38,11 @@ fn place(first: usize, n: usize, seat: usize) -> u32
     requires { ⌜ (n ≤ 32) × (seat < 32) ⌝ }
     ensures { λ r. ⌜ r ≡ placeFrom first n seat ⌝ }
 {
-    let place = if seat + 1 < first { n + seat } else { seat };
-    place as u32
+    if seat + 1 < first {
+        (n + seat) as u32
+    } else {
+        seat as u32
+    }
 }
 
 // Weights go by class, heights start from 0, and the seat rule goes by the order from the first seat on.
