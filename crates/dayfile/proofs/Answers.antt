@@ -6,6 +6,7 @@ use mathlib.Core.Path.{_≡_, refl, sym, _∙_, ap, subst}
 use Prim.Native.Nat.{ℕ, _<_}
 use native.Mathlib.Omega.{arith}
 use lib.ListN.{length}
+use Rattle.model.specs.Lowest.{isSome, andThen}
 use Rattle.dayfile.specs.Table.{Line, Refusal, refuse, firstOf}
 use Rattle.dayfile.specs.Outcome.{Outcome, turnedAway, answer, unless, outcome, Defined}
 use Rattle.dayfile.specs.Memory.{found, Under, refused, front, Writes}
@@ -35,6 +36,11 @@ no-line e h = sym e ∙ ap found h
 -- the bound of an answer
 pub under-at : (n : ℕ) {r : Found} {p : ℕ} → Under n (found r) → r ≡ At p → p < n
 under-at n u h = subst (λ (x : Found). Under n (found x)) h u
+
+-- a body is there where its entry is
+pub there-as : {A : Type 0} (body : ℕ → A) (o : Option ℕ) → isSome o ≡ isSome (andThen o (λ e. some (body e)))
+there-as body none = refl
+there-as body (some e) = refl
 
 -- a group of lines refuses, or lets pass
 pub refuses : {r : Check} {l : Option Refusal} {n p : ℕ} → refused r ≡ l → r ≡ Refused n p → l ≡ some (refuse n p)

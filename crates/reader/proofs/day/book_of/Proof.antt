@@ -1,16 +1,22 @@
-use mathlib.Core.Path.{_∙_, ap₂}
+use mathlib.Core.Option.{Option, some}
+use mathlib.Core.Path.{_∙_, ap, ap₂}
 use Prim.Native.Nat.{ℕ}
 use denote.Ref.{now}
 use borrow.Author.Needs.{needs}
-use Rattle.dayfile.specs.Layout.{fieldsAt, bookOf}
+use Rattle.model.specs.Lowest.{andThen, getOr, isSome}
+use Rattle.dayfile.specs.Layout.{field, start, entryOf, fieldsAt, firstIn, bookOf}
 use Rattle.dayfile.specs.Memory.{sized}
+use Rattle.dayfile.proofs.Answers.{there-as}
 use Rattle.reader.proofs.day.book_of.Statement.{statement}
 use Rattle.reader.proofs.day.book_of.Tie as tie
 
 returns : tie.Need-returns
-unfolding bookOf
+unfolding bookOf firstIn
 returns c =
-    let b = c .before .before in
+    let t = c .before in
+    let k = t .before .entry-of .ensures .0 in
+    let d = t .before .before in
+    let b = d .before .before in
     let a = b .before .before in
     let f = now (a .before .before .before .args .file) in (
       a .before .seats .ensures .0,
@@ -19,8 +25,14 @@ returns c =
         (
           b .array32 .ensures
               ∙ ap₂ (λ (x n : ℕ). sized 32 (fieldsAt f x n)) (b .before .start .ensures .0) (a .before .seats .ensures .0),
-          c .array24 .ensures
-              ∙ ap₂ (λ (x n : ℕ). sized 24 (fieldsAt f x n)) (c .before .start2 .ensures .0) (a .windows .ensures .0),
+          (
+            d .array24 .ensures
+                ∙ ap₂ (λ (x n : ℕ). sized 24 (fieldsAt f x n)) (d .before .start2 .ensures .0) (a .windows .ensures .0),
+            (
+              t .is-there .ensures ∙ ap isSome k ∙ there-as (λ e. field f (start f e)) (entryOf f 5),
+              c .field-of .ensures ∙ ap (λ (o : Option ℕ). getOr (andThen o (λ e. some (field f (start f e)))) 0) k,
+            ),
+          ),
         ),
       ),
     )
@@ -28,4 +40,4 @@ returns c =
 pub book-of-spec : {M : Type 1} → statement M
 book-of-spec =
     tie.close (tie.spec (λ c κs. search needs) (λ c κs. search needs) (λ c κs. search needs) (λ c κs. search needs) (λ c κs. search needs)
-    (λ c κs. search needs) returns)
+    (λ c κs. search needs) (λ c κs. search needs) (λ c κs. search needs) (λ c κs. search needs) returns)

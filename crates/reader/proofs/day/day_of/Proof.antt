@@ -1,6 +1,6 @@
-use mathlib.Core.List.{List, []}
-use mathlib.Core.Option.{Option, none, some}
-use mathlib.Core.Path.{_≡_, refl, _∙_, ap, sym}
+use mathlib.Core.List.{[]}
+use mathlib.Core.Option.{Option, some}
+use mathlib.Core.Path.{_∙_, ap, sym}
 use Prim.Native.Nat.{ℕ}
 use denote.Ref.{now}
 use borrow.Author.Needs.{needs}
@@ -8,13 +8,9 @@ use Rattle.model.specs.Lowest.{andThen, getOr, isSome}
 use Rattle.dayfile.specs.Layout.{entryOf, gridIn, bookOf, sheetOf}
 use Rattle.dayfile.specs.Memory.{held}
 use Rattle.dayfile.proofs.Accepted.{seats-are, windows-are}
+use Rattle.dayfile.proofs.Answers.{there-as}
 use Rattle.reader.proofs.day.day_of.Statement.{statement}
 use Rattle.reader.proofs.day.day_of.Tie as tie
-
--- a body is there where its entry is
-there-as : (f : List ℕ) (o : Option ℕ) → isSome o ≡ isSome (andThen o (λ e. some (gridIn f e)))
-there-as f none = refl
-there-as f (some e) = refl
 
 returns : tie.Need-returns
 unfolding bookOf sheetOf
@@ -29,9 +25,11 @@ returns c =
       seats-are = b .book-of .ensures .0 ∙ sym (seats-are f);
       windows-are = b .book-of .ensures .1 .0 ∙ sym (windows-are f);
       classes-are = b .book-of .ensures .1 .1 .0;
-      supplies-are = b .book-of .ensures .1 .1 .1;
+      supplies-are = b .book-of .ensures .1 .1 .1 .0;
       caps-are = g .grid-of .ensures;
-      has-sheet-is = t .is-there .ensures ∙ ap isSome k ∙ there-as f (entryOf f 4);
+      has-first-is = b .book-of .ensures .1 .1 .1 .1 .0;
+      first-is = b .book-of .ensures .1 .1 .1 .1 .1;
+      has-sheet-is = t .is-there .ensures ∙ ap isSome k ∙ there-as (gridIn f) (entryOf f 4);
       sheet-is = c .sheet-of .ensures ∙ ap (λ (o : Option ℕ). held (getOr (andThen o (λ e. some (gridIn f e))) [])) k;
     }
 

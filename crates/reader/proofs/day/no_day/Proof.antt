@@ -14,6 +14,8 @@ returns c =
       classes-are = refl;
       supplies-are = refl;
       caps-are = c .before .no-grid .ensures;
+      has-first-is = refl;
+      first-is = refl;
       has-sheet-is = refl;
       sheet-is = c .no-grid2 .ensures;
     }
