@@ -8,9 +8,11 @@ use Prim.Native.Nat.{ℕ, _+_, _*_, _≤_, _<_}
 use native.Mathlib.Nat.{mul-le-mul}
 use native.Mathlib.Omega.{arith}
 use lib.ListN.{length, drop, length-append}
+use Rattle.model.specs.Lowest.{when}
 use Rattle.model.specs.Book.{Grid}
 use Rattle.dayfile.specs.Layout.{contentsEnd}
 use Rattle.dayfile.specs.File.{Part, bytesOf, contents, bodies, fieldsOf, assemble, flat, flatIf, optPart, optParts, partsOf, fileOf}
+use Rattle.dayfile.specs.File.{oneIf}
 use Rattle.dayfile.specs.Table.{known}
 use Rattle.dayfile.specs.Memory.{sized, sizedGrid, bookIn, sheetIn, fileWith, front}
 use Rattle.dayfile.specs.declared.Book as Memory
@@ -18,7 +20,7 @@ use Rattle.dayfile.proofs.Tables.{sized-length}
 use Rattle.dayfile.proofs.Fields.{length-bytes}
 use Rattle.dayfile.proofs.Grids.{flat-append, sized-flat-length}
 use Rattle.store.specs.Stores.{Room, Put, sizeIf, fieldsIf, total, count, size, entry, entries, sizes, entriesAt}
-use Rattle.store.specs.Stores.{head, slot, slotsOf, listFields}
+use Rattle.store.specs.Stores.{head, slot, slotsOf, listFields, firstFields}
 use Rattle.store.specs.declared.contents.Slot.{Slot}
 use Rattle.store.proofs.Storing.{Begun, begun-first, begun-room, begun-next, begun-end, put-as, put-end, put-front, room-as, grid-if}
 
@@ -136,6 +138,7 @@ unfolding slotsOf total
 slots-fit b t e h =
     let q = mul-le-mul (h .0) (h .1) in
     let s = size-most t (b .seats * b .windows) in
+    let k = size-most (b .«has_first») 1 in
     let small : sizes (slotsOf b t) < 30000 = omega (arith, h) in (ap length e, subst (λ (xs : List Slot). sizes xs < 30000) (sym e) small)
 
 -- ---- a book with its caps, with or without a sheet
@@ -164,6 +167,7 @@ module _ (b : Memory.Book) (caps : Grid) (t : Bool) (sheet : Grid) where
       ∷ record { at = slot 2 true m; body = sized m (b .supplies); long = sized-length m (b .supplies) }
       ∷ record { at = slot 3 true (n * m); body = cells caps; long = sized-flat-length n m caps }
       ∷ record { at = slot 4 t (n * m); body = cells sheet; long = sized-flat-length n m sheet }
+      ∷ record { at = slot 5 (b .«has_first») 1; body = b .first ∷ []; long = refl }
       ∷ []
 
   slots-are : slots all ≡ slotsOf b t
@@ -174,6 +178,10 @@ module _ (b : Memory.Book) (caps : Grid) (t : Bool) (sheet : Grid) where
   sheet-flat true = refl
   sheet-flat false = refl
 
+  first-one : (u : Bool) → oneIf (when u (b .first)) ≡ ifThere u (b .first ∷ [])
+  first-one true = refl
+  first-one false = refl
+
   parts-are : partsWith b caps t sheet ≡ parts all
   unfolding partsWith partsOf optParts optPart bookIn
   parts-are =
@@ -182,18 +190,19 @@ module _ (b : Memory.Book) (caps : Grid) (t : Bool) (sheet : Grid) where
       ∷ record { sort = 2; body = sized m (b .supplies) }
       ∷ record { sort = 3; body = cells caps }
       ∷ ps in
-      ap (λ (o : Option (List ℕ)). front (optPart 4 o ++ [])) (sheet-flat t)
+      ap₂ (λ (o k : Option (List ℕ)). front (optPart 4 o ++ (optPart 5 k ++ []))) (sheet-flat t) (first-one (b .«has_first»))
 
   pub parts-count : length (partsWith b caps t sheet) ≡ entries (slotsOf b t)
   parts-count = ap length parts-are ∙ count-is all ∙ ap entries slots-are
 
-  -- what is stored, run by run: first the contents, then the bodies; a further kind is one run more behind the sheet's
+  -- what is stored, run by run: first the contents, then the bodies; a further kind is one run more
   abbrev stored : List (List ℕ)
   stored =
       head (slotsOf b t)
       ∷ listFields b
       ∷ cells caps
       ∷ fieldsIf t (cells sheet)
+      ∷ firstFields b
       ∷ []
 
   -- the first two bodies are one run

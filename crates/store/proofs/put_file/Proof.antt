@@ -45,9 +45,9 @@ put-rows-requires-2 c κs =
     let k = begun-next (begun-next b (q .put-lists .ensures)) (r .put-rows .ensures) in
     (omega (arith, n .1, s .pre .0 .0), sheet-room (a .book) (a .has-sheet) (a .sheet .now) (n .0) (begun-room k))
 
-returns : tie.Need-returns
-returns c =
-    let t = c .before .before in
+put-first-requires : tie.Need-put-first-requires
+put-first-requires c κs =
+    let t = c .before .before .before in
     let r = t .before .before .before .before in
     let q = r .before .before .before .before in
     let p = q .before .before .before .before in
@@ -57,11 +57,27 @@ returns c =
     let b = contents-put (a .book) (a .caps .now) (a .has-sheet) (a .sheet .now) (now (a .out)) (s .pre .1)
     (p .before .slots-of .ensures) (p .put-contents .ensures) in
     let k = begun-next (begun-next b (q .put-lists .ensures)) (r .put-rows .ensures) in
+    begun-room (begun-next k (sheet-put (a .book) (a .has-sheet) (a .sheet .now) (n .0) (t .put-rows2 .ensures)))
+
+returns : tie.Need-returns
+returns c =
+    let f = c .before .before in
+    let t = f .before .before .before .before in
+    let r = t .before .before .before .before in
+    let q = r .before .before .before .before in
+    let p = q .before .before .before .before in
+    let s = p .before .before .before .before .before in
+    let a = s .args in
+    let n = p .before .before .before .size-if .ensures in
+    let b = contents-put (a .book) (a .caps .now) (a .has-sheet) (a .sheet .now) (now (a .out)) (s .pre .1)
+    (p .before .slots-of .ensures) (p .put-contents .ensures) in
+    let k = begun-next (begun-next b (q .put-lists .ensures)) (r .put-rows .ensures) in
+    let l = begun-next k (sheet-put (a .book) (a .has-sheet) (a .sheet .now) (n .0) (t .put-rows2 .ensures)) in
     file-front (a .book) (a .caps .now) (a .has-sheet) (a .sheet .now) (now (a .out)) (s .pre .1)
-    (begun-next k (sheet-put (a .book) (a .has-sheet) (a .sheet .now) (n .0) (t .put-rows2 .ensures)))
+    (begun-next l (f .put-first .ensures))
 
 pub put-file-spec : {M : Type 1} → statement M
 put-file-spec =
     tie.close
     (tie.spec (λ c κs. search needs) (λ c κs. search needs) put-contents-requires put-lists-requires put-rows-requires put-rows-requires-2
-    (λ c. search needs) returns)
+    put-first-requires (λ c. search needs) returns)

@@ -11,7 +11,9 @@ returns : tie.Need-returns
 unfolding slotsOf
 returns c =
     let b = c .before .args .book in
-    ap (λ (g : ℕ). slot 1 true (b .seats) ∷ slot 2 true (b .windows) ∷ slot 3 true g ∷ slot 4 (c .before .args .has-sheet) g ∷ [])
+    let t = c .before .args .has-sheet in
+    let one = slot 5 (b .«has_first») 1 in
+    ap (λ (g : ℕ). slot 1 true (b .seats) ∷ slot 2 true (b .windows) ∷ slot 3 true g ∷ slot 4 t g ∷ one ∷ [])
     (c .cells .ensures)
 
 pub slots-of-spec : {M : Type 1} → statement M
