@@ -10,15 +10,16 @@ use native.Mathlib.Omega.{arith}
 use lib.Dec.{leb, eqb}
 use lib.ListN.{length, getD}
 use borrow.Author.Tests.{le-leb, lt-leb, eq-eqb, lt-ltb, le-ltb}
-use Rattle.model.specs.Lowest.{lowest, when}
+use Rattle.model.specs.Lowest.{lowest, when, andThen}
+use Rattle.model.specs.Book.{Grid, seats, windows}
 use Rattle.sheet.specs.Sheets.{gridOf}
 use Rattle.sheet.specs.declared.Sheet.{Sheet}
 use Rattle.dayfile.specs.Layout.{field, entriesIn, contentsEnd, start, size, sizeAt, seatsIn, windowsIn}
-use Rattle.dayfile.specs.File.{Part, assemble, flat, partsOf, fileOf}
+use Rattle.dayfile.specs.File.{Part, assemble, flat, flatIf, partsOf, fileOf}
 use Rattle.dayfile.specs.Table.{Line, Refusal, line, refuse, firstOf, within, offset, sizeRight, outside}
-use Rattle.dayfile.specs.Table.{line7, line8, line10, line11, line12, line16}
+use Rattle.dayfile.specs.Table.{line7, line8, line10, line11, line12, line16, line18}
 use Rattle.dayfile.specs.Table.{valueLines, optionLines, bufferLines, writeLines}
-use Rattle.dayfile.specs.Memory.{sized, sizedGrid, bookIn, fileWith, fileIn, front, Writes}
+use Rattle.dayfile.specs.Memory.{sized, sizedGrid, bookIn, sheetIn, fileWith, fileIn, front, Writes}
 use Rattle.dayfile.specs.declared.Book as Memory
 use Rattle.dayfile.specs.declared.Day.{Day}
 use Rattle.dayfile.specs.declared.Written as Written
@@ -31,7 +32,10 @@ use Rattle.dayfile.proofs.Fields.{fields-at}
 use Rattle.dayfile.proofs.Grids.{sized-flat-length}
 use Rattle.dayfile.proofs.Container.{nth, before, start-is, size-is, body-is}
 use Rattle.dayfile.proofs.Sound.{kept}
-use Rattle.store.specs.Stores.{entries, slotsIn}
+use Rattle.dayfile.proofs.Optional.{lengthIf}
+use Rattle.dayfile.proofs.WrittenReads.{first-line}
+use Rattle.dayfile.proofs.Held.{seats-in}
+use Rattle.store.specs.Stores.{sizeIf, entries, slotsOf, slotsIn}
 use Rattle.store.proofs.Files.{partsWith, parts-count}
 use Rattle.writer.specs.Values.{outsideIn}
 
@@ -219,6 +223,40 @@ values-told d {at} e f g =
     ∷ line 12 (outsideIn (flat (sizedGrid (x .seats) (x .windows) (gridOf y))) (at + 2 * x .seats + 2 * x .windows) 0 4095)
     ∷ []) (sym e) (sym f)
     ∙ sym (values-are d at g)
+
+-- ---- the first seat
+
+module _ (m : Memory.Book) (caps : Grid) (t : Bool) (sheet : Grid) where
+  abbrev cellCount : ℕ
+  cellCount = m .seats * m .windows
+
+  sheet-long : (u : Bool) → lengthIf (flatIf (sheetIn m u sheet)) ≡ sizeIf u cellCount
+  sheet-long true = sized-flat-length (m .seats) (m .windows) sheet
+  sheet-long false = refl
+
+  -- where its body starts
+  first-starts : {at k : ℕ} → at ≡ contentsEnd (entries (slotsOf m t))
+      → k ≡ m .seats + m .windows + m .seats * m .windows + sizeIf t (m .seats * m .windows)
+      → at + 2 * k
+      ≡ contentsEnd (length (partsOf (bookIn m caps) (sheetIn m t sheet)))
+      + 2 * (seats (bookIn m caps) + windows (bookIn m caps) + length (flat (bookIn m caps .caps)) + lengthIf (flatIf (sheetIn m t sheet)))
+  unfolding partsWith bookIn
+  first-starts e q =
+      let c = parts-count m caps t sheet in
+      let s = sized-length (m .seats) (m .classes) in
+      let w = sized-length (m .windows) (m .supplies) in
+      let g = sized-flat-length (m .seats) (m .windows) caps in let h = sheet-long t in omega arith
+
+  -- line 18 by what the code has at hand
+  pub first-told : {at k : ℕ} → at ≡ contentsEnd (entries (slotsOf m t))
+      → k ≡ m .seats + m .windows + m .seats * m .windows + sizeIf t (m .seats * m .windows)
+      → andThen (when (m .«has_first») (m .first)) (λ x. when (not (within 1 (m .seats) x)) (at + 2 * k))
+      ≡ line18 (fileWith m caps t sheet)
+  unfolding fileWith bookIn
+  first-told e q =
+      ap₂ (λ (n p : ℕ). andThen (when (m .«has_first») (m .first)) (λ x. when (not (within 1 n x)) p))
+      (sym (seats-in m caps)) (first-starts e q)
+      ∙ sym (first-line (bookIn m caps) (sheetIn m t sheet))
 
 -- ---- what the writer answers, by where its refusal comes from
 

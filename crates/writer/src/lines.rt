@@ -3,7 +3,7 @@
 ghost use mathlib.Core.Path.{_≡_};
 ghost use mathlib.Core.Bool.{not};
 ghost use mathlib.Core.List.{[], _∷_, _++_};
-ghost use Prim.Native.Nat.{_<_, _≤_};
+ghost use Prim.Native.Nat.{_+_, _*_, _<_, _≤_};
 ghost use Rattle.model.specs.Lowest.{when, andThen};
 ghost use Rattle.model.specs.Book.{Grid};
 ghost use Rattle.sheet.specs.Sheets.{gridOf};
@@ -12,7 +12,7 @@ ghost use Rattle.dayfile.specs.File.{flat};
 ghost use Rattle.dayfile.specs.Table.{within, line, line7, line8, valueLines, optionLines, firstOf};
 ghost use Rattle.dayfile.specs.Memory.{found, refused, sized, sizedGrid, fileWith, fileIn};
 ghost use Rattle.dayfile.specs.declared.Day.{Day};
-ghost use Rattle.store.specs.Stores.{entries, slotsOf, slotsIn};
+ghost use Rattle.store.specs.Stores.{sizeIf, entries, slotsOf, slotsIn};
 ghost use Rattle.writer.specs.Values.{outsideIn};
 use dayfile::Book;
 use dayfile::Check;
@@ -89,7 +89,17 @@ fn check_values(book: Book, caps: Sheet, at: usize) -> Check
     )
 }
 
-// The first seat, where it is there and not a seat of the book, and where its body starts at `at`. Its length is right by making.
+// How many fields stand before the first seat's: classes, supplies, caps, and the sheet where it is there.
+fn ahead_of_first(book: Book, has_sheet: bool) -> usize
+    requires { ⌜ (book .seats ≤ 32) × (book .windows ≤ 24) ⌝ }
+    ensures { λ r. ⌜ (r ≡ book .seats + book .windows + book .seats * book .windows + sizeIf «has_sheet» (book .seats * book .windows))
+        × (r < 2000) ⌝ }
+{
+    let cells = book.seats * book.windows;
+    book.seats + book.windows + cells + size_if(has_sheet, cells)
+}
+
+// The first seat, where it is not a seat of the book and its body starts at `at`. Its length is right by making.
 fn wrong_first(book: Book, at: usize) -> Found
     ensures { λ r. ⌜ found r ≡ andThen (when (book .«has_first») (book .first)) (λ k. when (not (within 1 (book .seats) k)) at) ⌝ }
 {
@@ -105,9 +115,7 @@ fn check_options(book: Book, has_sheet: bool, at: usize) -> Check
     ensures { λ r. ⌜ ((caps sheet : Grid) → at ≡ contentsEnd (entries (slotsOf book «has_sheet»))
         → refused r ≡ firstOf (optionLines (fileWith book caps «has_sheet» sheet))) ⌝ }
 {
-    let cells = book.seats * book.windows;
-    let before = book.seats + book.windows + cells + size_if(has_sheet, cells);
-    let first = wrong_first(book, at + 2 * before);
+    let first = wrong_first(book, at + 2 * ahead_of_first(book, has_sheet));
     first_of(18, first, Found::Nothing, Found::Nothing)
 }
 

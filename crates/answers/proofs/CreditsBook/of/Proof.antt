@@ -1,21 +1,30 @@
 -- `answers::CreditsBook::of` meets its contract: each part in its place.
-use mathlib.Core.Bool.{Bool}
-use mathlib.Core.Path.{ap, sym}
+use mathlib.Core.Path.{ap₂}
+use Prim.Native.Nat.{ℕ}
+use borrow.Author.Needs.{needs}
 use Rattle.dayfile.specs.declared.Day.{Day}
 use Rattle.answers.specs.declared.CreditsBook.{CreditsBook}
-use Rattle.answers.specs.Numbers.{bookFrom}
 use Rattle.answers.proofs.CreditsBook.of.Statement.{statement}
 use Rattle.answers.proofs.CreditsBook.of.Tie as tie
 
--- whether there is a sheet, found out
-abbrev told : Day → Bool → CreditsBook
-told d there = bookFrom (record { book = d .book; caps = d .caps; «has_sheet» = there; sheet = d .sheet })
+-- with what its two flags turned out to be
+abbrev told : Day → ℕ → ℕ → CreditsBook
+told d sheet first =
+    record {
+      seats = d .book .seats;
+      windows = d .book .windows;
+      classes = d .book .classes;
+      supplies = d .book .supplies;
+      caps = d .caps;
+      «has_sheet» = sheet;
+      sheet = d .sheet;
+      «has_first» = first;
+      first = d .book .first;
+    }
 
 returns : tie.Need-returns
-returns c = ap (told (c .before .before .before .before .before .before .args .day)) (sym (c .if1 .taken))
-
-returns-2 : tie.Need-returns-2
-returns-2 c = ap (told (c .before .before .before .before .before .before .args .day)) (sym (c .if1 .left))
+returns c =
+    ap₂ (told (c .before .before .before .before .before .before .before .args .day)) (c .before .flag .ensures) (c .flag2 .ensures)
 
 pub of-spec : {M : Type 1} → statement M
-of-spec = tie.close (tie.spec returns returns-2)
+of-spec = tie.close (tie.spec (λ c κs. search needs) (λ c κs. search needs) returns)

@@ -38,9 +38,12 @@ returns-2 c =
 
 check-options-requires : tie.Need-check-options-requires
 check-options-requires c κs =
-    let t = c .before .before .before .before in
+    let b = c .before .before .before in
+    let t = b .before in
     let k = t .before .before in
-    let d = k .before .before .args .day in counts-pass d (passes (k .check-counts .ensures d refl) (t .enum-told .given .1))
+    let d = k .before .before .args .day in
+    let p = counts-pass d (passes (k .check-counts .ensures d refl) (t .enum-told .given .1)) in
+    (p .0, p .1, omega (arith, b .first-body .ensures .1))
 
 returns-3 : tie.Need-returns-3
 returns-3 c =
@@ -48,7 +51,7 @@ returns-3 c =
     let t = v .before .before in
     let k = t .before .before in
     let d = k .before .before .args .day in
-    c .check-options .ensures (gridOf (d .caps)) (gridOf (d .sheet))
+    c .check-options .ensures (gridOf (d .caps)) (gridOf (d .sheet)) (v .before .first-body .ensures .0)
     ∙ sym (go-on d (passes (k .check-counts .ensures d refl) (t .enum-told .given .1))
     (passes (v .check-values .ensures d refl refl (v .before .first-body .ensures .0)) (c .before .enum-told2 .given .1)))
 
