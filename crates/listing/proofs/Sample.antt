@@ -1,6 +1,7 @@
 -- Paper 01's sample: what `mark` prints for K8.
 use mathlib.Core.Path.{_≡_, refl}
 use mathlib.Core.List.{List, [], _∷_, _++_}
+use mathlib.Core.Option.{none}
 use Rattle.fairness.specs.Sums.{sum}
 use Rattle.fairness.specs.Classes.{weightOf}
 use Rattle.fairness.specs.Leximin.{table}
@@ -20,6 +21,7 @@ book =
       classes = 1 ∷ 1 ∷ 1 ∷ [];
       supplies = 1 ∷ 3 ∷ [];
       caps = (1 ∷ 0 ∷ []) ∷ (1 ∷ 2 ∷ []) ∷ (0 ∷ 3 ∷ []) ∷ [];
+      first = none;
     }
 
 abbrev sheet : Grid
