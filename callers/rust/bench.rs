@@ -89,7 +89,7 @@ fn heading(table: &str, names: &[&str]) {
 /// The calls that plan a file, each with its own output buffer.
 fn planners(file: &[u8]) -> Vec<Call<'_>> {
     let call = |name, plan: fn(&[u8], &mut [u8]) -> usize| {
-        let mut out = [0; 3210];
+        let mut out = [0; FILE_LENGTH];
         Call::new(name, move || assert!(plan(black_box(file), black_box(&mut out)) > 0))
     };
     vec![
@@ -139,13 +139,13 @@ fn plan_table(csv: &mut String) {
 /// All planners must give the same totals. Says whether the library and the same method in plain Rust give the same cells.
 fn agree(book: &Book) -> bool {
     let file = file_of(book, None);
-    let mut outs = [[0; 3210]; 4];
+    let mut outs = [[0; FILE_LENGTH]; 4];
     let [library, same, other, flow] = &mut outs;
     credits::plan(&file, library).expect("a book within its bounds");
     same_method::plan(&file, same).expect("a book within its bounds");
     reference::plan(&file, other).expect("a book within its bounds");
     max_flow::plan(&file, flow).expect("a book within its bounds");
-    let totals = |out: &[u8; 3210]| {
+    let totals = |out: &[u8; FILE_LENGTH]| {
         let sheet = reference::read(out).expect("the longest file").1.expect("a planned sheet");
         sheet.map(|row| row.iter().map(|&cell| cell as u32).sum::<u32>())
     };
@@ -260,9 +260,9 @@ fn file_table(csv: &mut String) {
             Call::new("plain Rust", || assert!(black_box(reference::read(black_box(&file))).is_ok())),
         ];
         reading.add(side_by_side(&mut readers, ROUNDS, 32));
-        let (mut out, mut other) = ([0; 3210], [0; 3210]);
+        let (mut out, mut other) = ([0; FILE_LENGTH], [0; FILE_LENGTH]);
         let mut writers = [
-            Call::new("library", || assert_eq!(credits::raw::write(black_box(same), black_box(&mut out)).length, 3210)),
+            Call::new("library", || assert_eq!(credits::raw::write(black_box(same), black_box(&mut out)).length, FILE_LENGTH)),
             Call::new("plain Rust", || {
                 assert!(reference::write(black_box(&book), Some(&sheet), black_box(&mut other)).is_ok())
             }),

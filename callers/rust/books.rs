@@ -1,7 +1,7 @@
 //! Random books and sheets for comparing and timing.
 #![allow(dead_code)]
 
-use super::reference::{plan, read, write, Book, Sheet, SEATS, WINDOWS};
+use super::reference::{plan, read, write, Book, Sheet, FILE_LENGTH, SEATS, WINDOWS};
 use super::rng::Rng;
 
 /// Draws a book with that many seats and windows.
@@ -79,16 +79,21 @@ pub fn low_caps(rng: &mut Rng, seats: usize, windows: usize) -> Book {
     book
 }
 
+/// The same book with any of its seats first today.
+pub fn with_first(rng: &mut Rng, book: Book) -> Book {
+    Book { first: Some(rng.between(1, book.seats) as u16), ..book }
+}
+
 /// The file of a book, with or without a sheet.
 pub fn file_of(book: &Book, sheet: Option<&Sheet>) -> Vec<u8> {
-    let mut out = [0; 3210];
+    let mut out = [0; FILE_LENGTH];
     let length = write(book, sheet, &mut out).expect("a book within its bounds");
     out[..length].to_vec()
 }
 
 /// A settled sheet of a book.
 pub fn planned(book: &Book) -> Sheet {
-    let mut out = [0; 3210];
+    let mut out = [0; FILE_LENGTH];
     let length = plan(&file_of(book, None), &mut out).expect("a book within its bounds");
     read(&out[..length]).expect("a planned file").1.expect("a planned sheet")
 }

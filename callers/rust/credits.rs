@@ -18,7 +18,7 @@ pub const SEATS: usize = 32;
 pub const WINDOWS: usize = 24;
 
 /// The longest day file; a buffer of this length takes every file that [`write`] and [`plan`] make.
-pub const FILE_LENGTH: usize = 3210;
+pub const FILE_LENGTH: usize = 3218;
 
 /// The length that the marker asks of its buffer: 31 moves of three bytes.
 pub const MOVES_LENGTH: usize = 93;
@@ -30,6 +30,7 @@ pub const LISTING_LENGTH: usize = 3453;
 pub type Grid = [[u16; WINDOWS]; SEATS];
 
 /// A book in memory, with its sheet if it has one. Entries beyond `seats` and `windows` are not used; [`read`] makes them 0.
+/// Where no seat is named as the first of today's order, seat 1 comes first.
 #[derive(Clone, Debug, PartialEq, Eq)]
 pub struct Book {
     pub seats: usize,
@@ -38,6 +39,8 @@ pub struct Book {
     pub supplies: [u16; WINDOWS],
     pub caps: Grid,
     pub sheet: Option<Grid>,
+    /// The seat that comes first today, counted from 1.
+    pub first: Option<u16>,
 }
 
 /// Why a call turns its input away; the numbers are those of paper 01's table, which paper 02 goes on with.
@@ -61,6 +64,8 @@ pub enum Reason {
     WindowAboveSupply = 15,
     ShortBuffer = 16,
     OtherBook = 17,
+    /// Checked after `Cap` and before `NoSheet`.
+    FirstSeat = 18,
 }
 
 /// A reason and the offset that belongs to it. No byte of any buffer has changed.
@@ -106,14 +111,14 @@ pub enum Mark {
     Wasteful { window: u32, seat: u32 },
     /// Mark 2: played in this order, the moves lead to a sheet with a higher list.
     Improvable { chain: Vec<Move> },
-    /// Mark 3: the list is the highest, but the moves lead to the totals that the seat rule wants.
+    /// Mark 3: the list is the highest, but the moves lead nearer to the totals that the seat rule wants.
     Tied { chain: Vec<Move> },
     /// Mark 4.
     Settled,
 }
 
 impl Reason {
-    const ALL: [Reason; 17] = [
+    const ALL: [Reason; 18] = [
         Reason::UnderTwoBytes,
         Reason::NumberOfEntries,
         Reason::EndsWithinContents,
@@ -131,6 +136,7 @@ impl Reason {
         Reason::WindowAboveSupply,
         Reason::ShortBuffer,
         Reason::OtherBook,
+        Reason::FirstSeat,
     ];
 
     /// The number in the table.
@@ -179,6 +185,7 @@ pub fn read(file: &[u8]) -> Result<Book, Refusal> {
         supplies: book.supplies,
         caps: book.caps,
         sheet: (book.has_sheet != 0).then_some(book.sheet),
+        first: (book.has_first != 0).then_some(book.first),
     })
 }
 
@@ -192,6 +199,8 @@ pub fn write(book: &Book, out: &mut [u8]) -> Result<usize, Refusal> {
         caps: book.caps,
         has_sheet: book.sheet.is_some() as u32,
         sheet: book.sheet.unwrap_or([[0; WINDOWS]; SEATS]),
+        has_first: book.first.is_some() as u32,
+        first: book.first.unwrap_or(0),
     };
     length(raw::write(raw_book, out))
 }

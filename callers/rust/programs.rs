@@ -18,7 +18,7 @@ fn main() -> std::io::Result<()> {
 
 /// The planned file, or the line of its refusal.
 fn planned(file: &[u8]) -> Vec<u8> {
-    let mut out = vec![0; 3210];
+    let mut out = vec![0; reference::FILE_LENGTH];
     match reference::plan(file, &mut out) {
         Ok(length) => out.truncate(length),
         Err(refusal) => out = format!("refused {} at {}\n", refusal.number, refusal.offset).into_bytes(),

@@ -41,6 +41,9 @@ pub const MOST_CREDITS: u16 = 4095;
 /// The weight of each class, class 1 first.
 pub const WEIGHTS: [u16; 8] = [1, 2, 3, 5, 8, 12, 20, 40];
 
+/// The longest file: 32 seats, 24 windows, a sheet and a first seat.
+pub const FILE_LENGTH: usize = 3218;
+
 /// The marker's output buffer: 31 moves of three bytes.
 pub const MOVES_LENGTH: usize = 93;
 
@@ -58,6 +61,8 @@ pub struct Book {
     pub classes: [u16; SEATS],
     pub supplies: [u16; WINDOWS],
     pub caps: Grid,
+    /// The seat that comes first today, from 1; seat 1 if none is named.
+    pub first: Option<u16>,
 }
 
 impl Book {
@@ -65,7 +70,14 @@ impl Book {
     pub fn empty(seats: usize, windows: usize) -> Book {
         let mut classes = [0; SEATS];
         classes[..seats].fill(1);
-        Book { seats, windows, classes, supplies: [0; WINDOWS], caps: [[0; WINDOWS]; SEATS] }
+        Book { seats, windows, classes, supplies: [0; WINDOWS], caps: [[0; WINDOWS]; SEATS], first: None }
+    }
+
+    /// How many seats come before this one in today's order, which runs from the first seat up to the last and on from 1.
+    /// The first seat must be one of the book.
+    pub fn place(&self, seat: usize) -> usize {
+        let first = self.first.map_or(0, |first| first as usize - 1);
+        (seat + self.seats - first) % self.seats
     }
 }
 

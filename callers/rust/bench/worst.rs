@@ -104,7 +104,7 @@ fn credits_near(rng: &mut Rng, credits: u16) -> u16 {
 /// The median of many runs in the library, in microseconds.
 fn plan_time(book: &Book) -> f64 {
     let file = file_of(book, None);
-    let mut out = [0; 3210];
+    let mut out = [0; FILE_LENGTH];
     let mut run = || {
         let begin = Instant::now();
         credits::plan(&file, &mut out).expect("a book within its bounds");

@@ -94,7 +94,7 @@ pub fn written(plain: Result<usize, Refusal>) -> raw::WriteResult {
 }
 
 fn plan(rng: &mut Rng, seen: &mut Seen, file: &[u8]) -> Result<(), String> {
-    let mut twin = [0; 3210];
+    let mut twin = [0; FILE_LENGTH];
     let need = reference::plan(file, &mut twin).unwrap_or(100);
     let mut buffer = Buffer::of_about(rng, need);
     let library = raw::plan(file, buffer.lend());

@@ -46,7 +46,7 @@ pub fn write(rng: &mut Rng, seen: &mut Seen, book: &raw::Book) -> Result<(), Str
     let raw::Book { seats, windows, classes, supplies, caps, has_sheet, sheet } = *book;
     let plain_book = Book { seats, windows, classes, supplies, caps };
     let sheet = (has_sheet != 0).then_some(&sheet);
-    let need = reference::write(&plain_book, sheet, &mut [0; 3210]).unwrap_or(100);
+    let need = reference::write(&plain_book, sheet, &mut [0; FILE_LENGTH]).unwrap_or(100);
     let mut buffer = Buffer::of_about(rng, need);
     let mut twin = buffer.twin();
     let library = raw::write(*book, buffer.lend());

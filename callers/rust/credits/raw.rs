@@ -2,7 +2,8 @@
 //!
 //! A slice is what each call asks for: a pointer that is valid for its length, and no other reference into a `&mut` one.
 
-/// A book by value. `has_sheet` is 0 where the file has no sheet, and then the sheet's cells are 0.
+/// A book by value. `has_sheet` is 0 where the file has no sheet, and then the sheet's cells are 0; `has_first` is 0 where it names no
+/// first seat, and then `first` is 0.
 #[derive(Clone, Copy, Debug, PartialEq, Eq)]
 #[repr(C)]
 pub struct Book {
@@ -13,6 +14,8 @@ pub struct Book {
     pub caps: [[u16; 24]; 32],
     pub has_sheet: u32,
     pub sheet: [[u16; 24]; 32],
+    pub has_first: u32,
+    pub first: u16,
 }
 
 /// Refusal 0 means none; at a refusal the book is all 0.
@@ -57,7 +60,7 @@ pub struct BetterResult {
 }
 
 // The sizes that include/credits.h gives these structs on a 64-bit machine.
-const _: () = assert!(size_of::<Book>() == 3208 && size_of::<ReadResult>() == 3224);
+const _: () = assert!(size_of::<Book>() == 3216 && size_of::<ReadResult>() == 3232);
 const _: () = assert!(size_of::<MarkResult>() == 32 && size_of::<WriteResult>() == 24);
 const _: () = assert!(size_of::<BetterResult>() == 40);
 

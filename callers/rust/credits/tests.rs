@@ -1,4 +1,4 @@
-//! The wrapper against the library: paper 01's examples, refusals, short and empty buffers, calls side by side.
+//! The wrapper against the library: paper 01's examples, first seats, refusals, short and empty buffers, calls side by side.
 
 use super::*;
 
@@ -20,6 +20,7 @@ fn book(supplies: &[u16], caps: &[&[u16]], sheet: Option<&[&[u16]]>) -> Book {
         supplies: [0; WINDOWS],
         caps: grid(caps),
         sheet: sheet.map(grid),
+        first: None,
     };
     book.classes[..caps.len()].fill(1);
     book.supplies[..supplies.len()].copy_from_slice(supplies);
@@ -88,13 +89,58 @@ fn marks_1_and_3() {
     assert_eq!(mark(&tied), Ok(Mark::Tied { chain: vec![Move { window: 1, giver: 2, taker: 1 }] }));
 }
 
+/// K3 with that seat first.
+fn k3(first: Option<u16>, sheet: Option<&[&[u16]]>) -> Book {
+    Book { first, ..book(&[3], &[&[3], &[3]], sheet) }
+}
+
+#[test]
+fn the_first_seat_wins_ties_and_is_kept() {
+    for (first, totals) in [(None, [2, 1]), (Some(1), [2, 1]), (Some(2), [1, 2])] {
+        let [most, least] = totals;
+        let fair = k3(first, Some(&[&[most], &[least]]));
+        assert_eq!(planned(&file_of(&k3(first, None))), file_of(&fair));
+        assert_eq!(mark(&file_of(&fair)), Ok(Mark::Settled));
+        let tied = mark(&file_of(&k3(first, Some(&[&[least], &[most]])))).unwrap();
+        let winner = if most == 2 { 1 } else { 2 };
+        assert_eq!(tied, Mark::Tied { chain: vec![Move { window: 1, giver: 3 - winner, taker: winner }] });
+    }
+}
+
+#[test]
+fn first_seats_that_are_not_in_the_book() {
+    let mut out = [0xee; FILE_LENGTH];
+    for seat in [0, 3, 65535] {
+        let sheet: Option<&[&[u16]]> = Some(&[&[9], &[9]]);
+        for (book, at) in [(k3(Some(seat), None), 36), (k3(Some(seat), sheet), 46)] {
+            assert_eq!(write(&book, &mut out), refused(Reason::FirstSeat, at));
+            let mut file = file_of(&Book { first: Some(2), ..book });
+            file[at..].copy_from_slice(&seat.to_le_bytes());
+            assert_eq!(read(&file), refused(Reason::FirstSeat, at));
+            assert_eq!(mark(&file), refused(Reason::FirstSeat, at));
+            assert_eq!(plan(&file, &mut out), refused(Reason::FirstSeat, at));
+        }
+    }
+    assert!(out.iter().all(|&byte| byte == 0xee));
+    let unnamed = raw::read(&file_of(&k3(None, None))).book;
+    assert_eq!((unnamed.has_first, unnamed.first), (0, 0));
+    let named = raw::read(&file_of(&k3(Some(2), None))).book;
+    assert_eq!((named.has_first, named.first), (1, 2));
+    // What is not named is not looked at.
+    let length = raw::write(raw::Book { first: 9, ..unnamed }, &mut out).length;
+    assert_eq!(out[..length], file_of(&k3(None, None)));
+}
+
 #[test]
 fn files_written_read_back() {
     let mut large = book(&[4095; WINDOWS], &[&[4095; WINDOWS][..]; SEATS], None);
     large.classes = [8; SEATS];
-    for book in [k8(None), k8(K8_SHEET), large.clone(), Book { sheet: Some([[65535; WINDOWS]; SEATS]), ..large }] {
-        let file = file_of(&book);
-        assert_eq!(read(&file), Ok(book));
+    let full = Book { sheet: Some([[65535; WINDOWS]; SEATS]), ..large.clone() };
+    for book in [k8(None), k8(K8_SHEET), large, full] {
+        for first in [None, Some(1), Some(book.seats as u16)] {
+            let book = Book { first, ..book.clone() };
+            assert_eq!(read(&file_of(&book)), Ok(book));
+        }
     }
     assert_eq!(read(&K11), Ok(book(&[3], &[&[2]], None)));
 }
@@ -158,16 +204,18 @@ fn empty_input_and_empty_buffers() {
     assert_eq!(read(&[]).unwrap_err().to_string(), "refused 1 at 0");
     let nothing = raw::read(&[]).book;
     assert_eq!((nothing.seats, nothing.windows, nothing.has_sheet), (0, 0, 0));
+    assert_eq!((nothing.has_first, nothing.first), (0, 0));
     assert_eq!((nothing.caps, nothing.sheet), (grid(&[]), grid(&[])));
 }
 
-/// The file that is chosen. The body must be the caller's own bytes, the last of that file.
+/// The file that is chosen. The body must be the caller's own bytes: the last of that file but for those of its first seat.
 fn chosen(first: &[u8], second: &[u8]) -> Which {
     let Better { file, body } = better(first, second).unwrap();
     let bytes = if file == Which::First { first } else { second };
     let book = read(bytes).unwrap();
-    let start = bytes.len() - 2 * book.seats * book.windows;
-    assert_eq!(body.as_ptr_range(), bytes[start..].as_ptr_range());
+    let end = bytes.len() - if book.first.is_some() { 2 } else { 0 };
+    let start = end - 2 * book.seats * book.windows;
+    assert_eq!(body.as_ptr_range(), bytes[start..end].as_ptr_range());
     file
 }
 
@@ -184,6 +232,10 @@ fn the_better_of_two_sheets() {
     weighted.classes[1] = 2;
     let k6 = file_of(&weighted);
     assert_eq!(chosen(&k6, &planned(&k6)), Which::Second);
+    // Another first seat is not another book, and it moves the body.
+    let turned = planned(&file_of(&Book { first: Some(3), ..k8(None) }));
+    assert_eq!((chosen(&spoilt, &turned), chosen(&turned, &spoilt)), (Which::Second, Which::First));
+    assert_eq!((chosen(&fair, &turned), chosen(&turned, &fair)), (Which::First, Which::First));
 }
 
 /// The refusal of a pair of files.

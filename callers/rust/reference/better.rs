@@ -1,4 +1,4 @@
-//! The better of two sheets of one book (paper 02, E1).
+//! The better of two sheets of one book (paper 02, E1), which E2 lets have different first seats.
 
 use std::cmp::Ordering;
 
@@ -39,10 +39,18 @@ pub fn choose(
     let sheet = handed_in(&book, &sheet).map_err(of(1))?;
     let (other_book, other) = read(second).map_err(of(2))?;
     let other = handed_in(&other_book, &other).map_err(of(2))?;
-    refuse_if(book != other_book, 17, 0).map_err(of(0))?;
-    let file = if is_higher(&book, sheet, other) { 2 } else { 1 };
-    let layout = Layout::new(book.seats, book.windows, true);
-    Ok(Better { file, start: layout.sheet, length: layout.length - layout.sheet })
+    refuse_if(!same_numbers(&book, &other_book), 17, 0).map_err(of(0))?;
+    let (file, book) = if is_higher(&book, sheet, other) { (2, &other_book) } else { (1, &book) };
+    Ok(Better { file, start: Layout::of(book, true).sheet, length: 2 * book.seats * book.windows })
+}
+
+/// Whether classes, supplies and caps are the same. The first seat decides ties of settled totals and no list, so it may differ.
+fn same_numbers(book: &Book, other: &Book) -> bool {
+    book.seats == other.seats
+        && book.windows == other.windows
+        && book.classes == other.classes
+        && book.supplies == other.supplies
+        && book.caps == other.caps
 }
 
 /// All levels, lowest first.

@@ -1,5 +1,6 @@
 //! The better of two sheets: examples in pairs, equal lists, which refusal comes first, and books that differ.
 
+use super::first_tests::first_is;
 use super::*;
 
 const NO_CREDITS: Option<&Sheet> = Some(&[[0; WINDOWS]; SEATS]);
@@ -69,25 +70,29 @@ fn levels_are_compared_exactly_and_from_the_lowest() {
     assert_lower(&book(&[8], &[50], &[&[50]]), &[&[38]], &[&[39]]);
 }
 
-/// A file for each of lines 1 to 15, with the offset of its refusal.
-fn refused_files() -> [(Vec<u8>, usize); 15] {
+/// A file for each line that a single file can meet, with the line's number and the offset of the refusal.
+fn refused_files() -> [(u32, Vec<u8>, usize); 16] {
     let with_sheet = |rows: &[&[u16]]| file_of(&k8(), Some(&grid(rows)));
+    // The sheet is above the caps too, which comes later.
+    let mut no_seat = file_of(&first_is(k8(), 1), Some(&[[9; WINDOWS]; SEATS]));
+    no_seat[66] = 4;
     [
-        (vec![3], 1),
-        (k8_with(0, 5), 0),
-        (k8_with(0, 4)[..25].to_vec(), 25),
-        (k8_with(8, 3), 8),
-        (k8_with(4, 22), 4),
-        (k8_with(18, 14), 42),
-        (file_of_size(33, 24), 6),
-        (file_of_size(32, 25), 12),
-        (k8_with(18, 10)[..40].to_vec(), 18),
-        (k8_with(22, 9), 22),
-        (k8_with(28, 4096), 28),
-        (k8_with(36, 4096), 36),
-        (file_of(&k8(), None), 0),
-        (with_sheet(&[&[0, 0], &[1, 0], &[1, 4]]), 56),
-        (with_sheet(&[&[1, 0], &[1, 2], &[0, 3]]), 32),
+        (1, vec![3], 1),
+        (2, k8_with(0, 6), 0),
+        (3, k8_with(0, 4)[..25].to_vec(), 25),
+        (4, k8_with(8, 3), 8),
+        (5, k8_with(4, 22), 4),
+        (6, k8_with(18, 14), 42),
+        (7, file_of_size(33, 24), 6),
+        (8, file_of_size(32, 25), 12),
+        (9, k8_with(18, 10)[..40].to_vec(), 18),
+        (10, k8_with(22, 9), 22),
+        (11, k8_with(28, 4096), 28),
+        (12, k8_with(36, 4096), 36),
+        (18, no_seat, 66),
+        (13, file_of(&k8(), None), 0),
+        (14, with_sheet(&[&[0, 0], &[1, 0], &[1, 4]]), 56),
+        (15, with_sheet(&[&[1, 0], &[1, 2], &[0, 3]]), 32),
     ]
 }
 
@@ -96,12 +101,12 @@ fn the_first_file_is_refused_first_and_another_book_last() {
     let sound = [k8(), k10()].map(|book| file_of(&book, NO_CREDITS));
     assert_eq!(chosen(&sound[0], &sound[1]), Err((17, 0, 0)));
     let refused = refused_files();
-    for (line, (file, offset)) in (1..).zip(&refused) {
-        for other in refused.iter().map(|(other, _)| other).chain(&sound) {
-            assert_eq!(chosen(file, other), Err((line, *offset, 1)));
+    for (line, file, offset) in &refused {
+        for other in refused.iter().map(|(_, other, _)| other).chain(&sound) {
+            assert_eq!(chosen(file, other), Err((*line, *offset, 1)));
         }
         for other in &sound {
-            assert_eq!(chosen(other, file), Err((line, *offset, 2)));
+            assert_eq!(chosen(other, file), Err((*line, *offset, 2)));
         }
     }
 }
@@ -131,4 +136,20 @@ fn other_numbers_of_seats_or_windows_make_another_book() {
     let wide = file_of(&book(&[1], &[1, 3], &[&[3, 3]]), Some(&grid(&[&[1, 2]])));
     assert_eq!(tall[26..], wide[26..]);
     assert_eq!(chosen(&tall, &wide), Err((17, 0, 0)));
+}
+
+#[test]
+fn another_first_seat_is_not_another_book() {
+    let [low, high]: [Sheet; 2] = [[0, 3], [1, 2]].map(|[a, b]| grid(&[&[0, 0], &[1, a], &[0, b]]));
+    let books = [k8(), first_is(k8(), 1), first_is(k8(), 2), first_is(k8(), 3)];
+    for (one, other) in books.iter().flat_map(|one| books.iter().map(move |other| (one, other))) {
+        let (spoilt, fair) = (file_of(one, Some(&low)), file_of(other, Some(&high)));
+        // A fifth entry moves the body by six bytes.
+        let start = if other.first.is_some() { 54 } else { 48 };
+        let chosen = Better { file: 2, start, length: 12 };
+        assert_eq!(better(&spoilt, &fair), Ok(chosen));
+        assert_eq!(better(&fair, &spoilt), Ok(Better { file: 1, ..chosen }));
+        assert_eq!(fair[start..start + 12], [0, 0, 0, 0, 1, 0, 1, 0, 0, 0, 2, 0]);
+        assert_eq!(better(&file_of(one, Some(&high)), &fair).map(|chosen| chosen.file), Ok(1));
+    }
 }

@@ -25,6 +25,7 @@ fn small_book(rng: &mut Rng) -> Book {
     for window in 0..book.windows {
         book.supplies[window] = rng.between(0, most + 3) as u16;
     }
+    book.first = rng.once_in(2).then(|| rng.between(1, book.seats) as u16);
     book
 }
 
@@ -103,7 +104,16 @@ fn improves(book: &Book, totals: &[i64], gainer: usize, loser: usize) -> bool {
     left < right || left == right && weight(book, gainer) < weight(book, loser)
 }
 fn ties_wrongly(book: &Book, totals: &[i64], gainer: usize, loser: usize) -> bool {
-    weight(book, gainer) == weight(book, loser) && totals[loser] == totals[gainer] + 1 && gainer < loser
+    weight(book, gainer) == weight(book, loser)
+        && totals[loser] == totals[gainer] + 1
+        && is_earlier(book, gainer, loser)
+}
+
+/// Paper 02's order, seat by seat: up to the last seat and on from 1. Which of two comes up earlier?
+fn is_earlier(book: &Book, seat: usize, other: usize) -> bool {
+    let first = book.first.unwrap_or(1) as usize - 1;
+    let mut order = (first..book.seats).chain(0..first);
+    order.find(|&next| next == seat || next == other) == Some(seat) && seat != other
 }
 
 /// Gainer, loser and the fewest moves between them, by the search rule over all paths.
@@ -175,7 +185,7 @@ fn check_sheet(book: &Book, sheet: &Sheet, best: &[i64], planned: &[i64]) -> u32
 #[test]
 fn every_sheet_of_small_books() {
     let mut rng = Rng::new(1);
-    let (mut books, mut marks) = (0, [0u32; 5]);
+    let (mut books, mut marks, mut turned) = (0, [0u32; 5], 0);
     while books < 6000 {
         let book = small_book(&mut rng);
         let Some(sheets) = feasible_sheets(&book) else { continue };
@@ -184,13 +194,15 @@ fn every_sheet_of_small_books() {
         assert_eq!(mark_by_the_rules(&book, &planned).0.mark, 4);
         assert_eq!(feasible(&book, &planned), Ok(()));
         let planned = totals(&book, &planned);
+        turned += (planned != totals(&book, &plan_sheet(&Book { first: None, ..book.clone() }))) as u32;
         for sheet in &sheets {
             marks[check_sheet(&book, sheet, &best, &planned) as usize] += 1;
         }
         books += 1;
     }
     println!("{books} books; sheets with mark 1 to 4: {:?}", &marks[1..]);
-    assert!(marks[1..].iter().all(|&count| count > 1000));
+    println!("on {turned} of them the first seat changes the totals");
+    assert!(marks[1..].iter().all(|&count| count > 1000) && turned > 100);
 }
 
 #[test]
@@ -202,7 +214,11 @@ fn the_better_of_pairs_of_sheets() {
         let Some(sheets) = feasible_sheets(&book) else { continue };
         let pair = [0; 2].map(|_| sheets[rng.below(sheets.len())]);
         let [list, other] = pair.map(|sheet| profile(&book, &sheet));
-        let [first, second] = pair.map(|sheet| file_of(&book, Some(&sheet)));
+        // The list does not ask who comes first, so the files may differ in that.
+        let [first, second] = pair.map(|sheet| {
+            let first = rng.once_in(2).then(|| rng.between(1, book.seats) as u16);
+            file_of(&Book { first, ..book.clone() }, Some(&sheet))
+        });
         let chosen = better(&first, &second).map(|chosen| chosen.file);
         assert_eq!(chosen, Ok(if list < other { 2 } else { 1 }));
         orders[(list.cmp(&other) as i8 + 1) as usize] += 1;

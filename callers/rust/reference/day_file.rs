@@ -2,7 +2,10 @@
 
 use super::{refuse_if, Book, Grid, Refusal, Sheet, MOST_CREDITS, SEATS, WEIGHTS, WINDOWS};
 
-/// Where the parts of a day file begin, and its length.
+/// The last kind that is known. Kinds 1 to 3 are in every file.
+const LAST_KIND: usize = 5;
+
+/// Where the parts of a day file begin, and its length. A part that is missing has no bytes.
 #[derive(Clone, Copy, Debug)]
 pub struct Layout {
     pub entries: usize,
@@ -10,20 +13,32 @@ pub struct Layout {
     pub supplies: usize,
     pub caps: usize,
     pub sheet: usize,
+    pub first: usize,
     pub length: usize,
 }
 
 impl Layout {
-    /// The layout of a file with that many seats and windows, with or without a sheet.
-    pub fn new(seats: usize, windows: usize, with_sheet: bool) -> Layout {
-        let entries = if with_sheet { 4 } else { 3 };
+    /// The layout of the book's file, with or without a sheet.
+    pub fn of(book: &Book, with_sheet: bool) -> Layout {
+        Layout::new(book.seats, book.windows, with_sheet, book.first.is_some())
+    }
+
+    fn new(seats: usize, windows: usize, with_sheet: bool, with_first: bool) -> Layout {
+        let entries = 3 + with_sheet as usize + with_first as usize;
         let classes = 2 + 6 * entries;
         let supplies = classes + 2 * seats;
         let caps = supplies + 2 * windows;
         let sheet = caps + 2 * seats * windows;
-        let length = if with_sheet { sheet + 2 * seats * windows } else { sheet };
-        Layout { entries, classes, supplies, caps, sheet, length }
+        let first = if with_sheet { sheet + 2 * seats * windows } else { sheet };
+        let length = if with_first { first + 2 } else { first };
+        Layout { entries, classes, supplies, caps, sheet, first, length }
     }
+}
+
+/// The entries whose kinds may be missing, where they are there.
+struct Contents {
+    sheet: Option<usize>,
+    first: Option<usize>,
 }
 
 /// The fields of entry `i` of the contents lie here, two bytes each.
@@ -44,15 +59,20 @@ fn field(file: &[u8], at: usize) -> usize {
 
 /// Reads a day file: its book, and its sheet if it holds one.
 pub fn read(file: &[u8]) -> Result<(Book, Option<Sheet>), Refusal> {
-    let entries = check_contents(file)?;
-    let (seats, windows) = check_lengths(file, entries)?;
-    let layout = Layout::new(seats, windows, entries == 4);
+    let contents = check_contents(file)?;
+    let (seats, windows) = check_lengths(file, &contents)?;
+    let layout = Layout::new(seats, windows, contents.sheet.is_some(), contents.first.is_some());
     let mut book = Book::empty(seats, windows);
     read_row(&file[layout.classes..], &mut book.classes[..seats]);
     read_row(&file[layout.supplies..], &mut book.supplies[..windows]);
     read_grid(&file[layout.caps..], seats, windows, &mut book.caps);
     check_values(&book, &layout)?;
-    if entries == 3 {
+    if let Some(entry) = contents.first {
+        refuse_if(field(file, length_at(entry)) != 2, 18, length_at(entry))?;
+        book.first = Some(field(file, layout.first) as u16);
+        check_first(&book, &layout)?;
+    }
+    if contents.sheet.is_none() {
         return Ok((book, None));
     }
     let mut sheet = [[0; WINDOWS]; SEATS];
@@ -60,14 +80,18 @@ pub fn read(file: &[u8]) -> Result<(Book, Option<Sheet>), Refusal> {
     Ok((book, Some(sheet)))
 }
 
-/// Refusals 1 to 6: the table of contents. Gives the number of entries.
-fn check_contents(file: &[u8]) -> Result<usize, Refusal> {
+/// Refusals 1 to 6: the table of contents.
+fn check_contents(file: &[u8]) -> Result<Contents, Refusal> {
     refuse_if(file.len() < 2, 1, file.len())?;
     let entries = field(file, 0);
-    refuse_if(entries != 3 && entries != 4, 2, 0)?;
+    refuse_if(entries < 3 || entries > LAST_KIND, 2, 0)?;
     refuse_if(file.len() < 2 + 6 * entries, 3, file.len())?;
+    let mut last = 0;
     for i in 0..entries {
-        refuse_if(field(file, kind_at(i)) != i + 1, 4, kind_at(i))?;
+        let kind = field(file, kind_at(i));
+        let in_order = if i < 3 { kind == i + 1 } else { kind > last && kind <= LAST_KIND };
+        refuse_if(!in_order, 4, kind_at(i))?;
+        last = kind;
     }
     let mut end = 2 + 6 * entries;
     for i in 0..entries {
@@ -75,17 +99,18 @@ fn check_contents(file: &[u8]) -> Result<usize, Refusal> {
         end += field(file, length_at(i));
     }
     refuse_if(end != file.len(), 6, file.len())?;
-    Ok(entries)
+    let entry_of = |kind| (3..entries).find(|&i| field(file, kind_at(i)) == kind);
+    Ok(Contents { sheet: entry_of(4), first: entry_of(5) })
 }
 
-/// Refusals 7 to 9: the lengths of the bodies. Gives the numbers of seats and windows.
-fn check_lengths(file: &[u8], entries: usize) -> Result<(usize, usize), Refusal> {
+/// Refusals 7 to 9: the lengths of the bodies that depend on each other. Gives the numbers of seats and windows.
+fn check_lengths(file: &[u8], contents: &Contents) -> Result<(usize, usize), Refusal> {
     let length = |i| field(file, length_at(i));
     let is_count = |length: usize, most: usize| length >= 2 && length <= 2 * most && length % 2 == 0;
     refuse_if(!is_count(length(0), SEATS), 7, length_at(0))?;
     refuse_if(!is_count(length(1), WINDOWS), 8, length_at(1))?;
     let (seats, windows) = (length(0) / 2, length(1) / 2);
-    for i in 2..entries {
+    for i in [Some(2), contents.sheet].into_iter().flatten() {
         refuse_if(length(i) != 2 * seats * windows, 9, length_at(i))?;
     }
     Ok((seats, windows))
@@ -108,6 +133,12 @@ fn check_values(book: &Book, layout: &Layout) -> Result<(), Refusal> {
     Ok(())
 }
 
+/// Refusal 18 by its value: a first seat that is not in the book.
+fn check_first(book: &Book, layout: &Layout) -> Result<(), Refusal> {
+    let in_book = book.first.map_or(true, |first| first >= 1 && first as usize <= book.seats);
+    refuse_if(!in_book, 18, layout.first)
+}
+
 /// Fills a row with the fields at the front of the bytes.
 fn read_row(bytes: &[u8], row: &mut [u16]) {
     for (value, pair) in row.iter_mut().zip(bytes.chunks_exact(2)) {
@@ -126,28 +157,37 @@ fn read_grid(bytes: &[u8], seats: usize, windows: usize, grid: &mut Grid) {
 pub fn write(book: &Book, sheet: Option<&Sheet>, out: &mut [u8]) -> Result<usize, Refusal> {
     refuse_if(book.seats < 1 || book.seats > SEATS, 7, length_at(0))?;
     refuse_if(book.windows < 1 || book.windows > WINDOWS, 8, length_at(1))?;
-    let layout = Layout::new(book.seats, book.windows, sheet.is_some());
+    let layout = Layout::of(book, sheet.is_some());
     check_values(book, &layout)?;
+    check_first(book, &layout)?;
     refuse_if(out.len() < layout.length, 16, layout.length)?;
-    write_contents(book, &layout, out);
+    write_contents(book, &layout, sheet.is_some(), out);
     write_row(&book.classes[..book.seats], &mut out[layout.classes..]);
     write_row(&book.supplies[..book.windows], &mut out[layout.supplies..]);
     write_grid(&book.caps, book, &mut out[layout.caps..]);
     if let Some(sheet) = sheet {
         write_grid(sheet, book, &mut out[layout.sheet..]);
     }
+    if let Some(first) = book.first {
+        write_row(&[first], &mut out[layout.first..]);
+    }
     Ok(layout.length)
 }
 
-/// The table of contents: the number of entries, then kind, start and length of each.
-fn write_contents(book: &Book, layout: &Layout, out: &mut [u8]) {
+/// The table of contents: the number of entries, then kind, start and length of each that is there.
+fn write_contents(book: &Book, layout: &Layout, with_sheet: bool, out: &mut [u8]) {
     let cells = 2 * book.seats * book.windows;
-    let starts = [layout.classes, layout.supplies, layout.caps, layout.sheet];
-    let lengths = [2 * book.seats, 2 * book.windows, cells, cells];
+    let parts = [
+        (true, layout.classes, 2 * book.seats),
+        (true, layout.supplies, 2 * book.windows),
+        (true, layout.caps, cells),
+        (with_sheet, layout.sheet, cells),
+        (book.first.is_some(), layout.first, 2),
+    ];
     write_row(&[layout.entries as u16], out);
-    for i in 0..layout.entries {
-        let entry = [i as u16 + 1, starts[i] as u16, lengths[i] as u16];
-        write_row(&entry, &mut out[kind_at(i)..]);
+    let there = (1..).zip(parts).filter(|(_, (is_there, ..))| *is_there);
+    for (i, (kind, (_, start, length))) in there.enumerate() {
+        write_row(&[kind, start as u16, length as u16], &mut out[kind_at(i)..]);
     }
 }
 

@@ -24,6 +24,8 @@ pub struct Position<'a> {
     pub sheet: Sheet,
     pub totals: [i32; SEATS],
     pub weights: [i32; SEATS],
+    /// Per seat its place in today's order.
+    pub places: [usize; SEATS],
     /// Per seat the windows where it is below its cap.
     below_cap: [u32; SEATS],
     /// Per window the seats that have a credit there.
@@ -55,11 +57,13 @@ impl<'a> Position<'a> {
             sheet,
             totals: [0; SEATS],
             weights: [1; SEATS],
+            places: [0; SEATS],
             below_cap: [0; SEATS],
             holders: [0; WINDOWS],
         };
         for seat in 0..book.seats {
             position.weights[seat] = WEIGHTS[book.classes[seat] as usize - 1] as i32;
+            position.places[seat] = book.place(seat);
             for window in 0..book.windows {
                 position.totals[seat] += sheet[seat][window] as i32;
                 position.update_masks(seat, window);
@@ -126,11 +130,11 @@ impl<'a> Position<'a> {
         low < high || low == high && self.weights[receiver] < self.weights[donor]
     }
 
-    /// Is the donor one credit above a receiver of the same weight that comes first by seat number?
+    /// Is the donor one credit above a receiver of the same weight that comes earlier in today's order?
     pub fn ties_wrongly(&self, receiver: usize, donor: usize) -> bool {
         self.weights[receiver] == self.weights[donor]
             && self.totals[donor] == self.totals[receiver] + 1
-            && receiver < donor
+            && self.places[receiver] < self.places[donor]
     }
 
     /// The receiver's level and the donor's less one credit, both times both weights.

@@ -36,7 +36,7 @@ pub fn handed_in<'a>(book: &Book, sheet: &'a Option<Sheet>) -> Result<&'a Sheet,
 
 /// Refusals 14 and 15: is the sheet feasible? (paper 01: lawful)
 pub fn feasible(book: &Book, sheet: &Sheet) -> Result<(), Refusal> {
-    let layout = Layout::new(book.seats, book.windows, true);
+    let layout = Layout::of(book, true);
     for seat in 0..book.seats {
         for window in 0..book.windows {
             let above = sheet[seat][window] > book.caps[seat][window];

@@ -44,10 +44,11 @@ fn fill(book: &Book) -> Sheet {
     sheet
 }
 
-/// Who comes first, each with a total: the lower level, then the smaller weight, then the lower seat.
+/// Who comes first, each with a total: the lower level, then the smaller weight, then the seat that is earlier today.
 fn order(position: &Position, (a, total_a): (usize, i32), (b, total_b): (usize, i32)) -> Ordering {
     let (weight_a, weight_b) = (position.weights[a], position.weights[b]);
-    (total_a * weight_b, weight_a, a).cmp(&(total_b * weight_a, weight_b, b))
+    let (place_a, place_b) = (position.places[a], position.places[b]);
+    (total_a * weight_b, weight_a, place_a).cmp(&(total_b * weight_a, weight_b, place_b))
 }
 
 /// Again and again the first seat takes from the last one that it reaches, and a seat that may take nothing drops out.
@@ -92,10 +93,10 @@ fn push(position: &mut Position, reach: &Reach, donor: usize) {
 }
 
 /// The most credits that the receiver may take: before the last of them, (receiver's total) × (donor's weight) is below
-/// (donor's total − 1) × (receiver's weight), or equal if the receiver has the smaller weight or else the lower seat.
+/// (donor's total − 1) × (receiver's weight), or equal if the receiver has the smaller weight or else is earlier today.
 fn most_credits(position: &Position, receiver: usize, donor: usize) -> i32 {
     let (weight, donor_weight) = (position.weights[receiver], position.weights[donor]);
     let gap = position.totals[donor] * weight - (position.totals[receiver] - 1) * donor_weight;
-    let may_be_equal = (weight, receiver) < (donor_weight, donor);
+    let may_be_equal = (weight, position.places[receiver]) < (donor_weight, position.places[donor]);
     (if may_be_equal { gap } else { gap - 1 }) / (weight + donor_weight)
 }

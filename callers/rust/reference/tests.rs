@@ -1,9 +1,11 @@
-//! The examples of paper 01 and its "turned away and taken".
+//! The examples of paper 01 and its "turned away and taken"; paper 02's are beside it.
 
 use super::*;
 
 #[path = "better_tests.rs"]
 mod better_tests;
+#[path = "first_tests.rs"]
+mod first_tests;
 
 /// A book of small parts; rows are seats.
 fn book(classes: &[u16], supplies: &[u16], caps: &[&[u16]]) -> Book {
@@ -23,13 +25,13 @@ fn grid(rows: &[&[u16]]) -> Grid {
 }
 
 pub(super) fn file_of(book: &Book, sheet: Option<&Sheet>) -> Vec<u8> {
-    let mut out = [0; 3210];
+    let mut out = [0; FILE_LENGTH];
     let length = write(book, sheet, &mut out).unwrap();
     out[..length].to_vec()
 }
 
 fn planned_totals(book: &Book) -> Vec<u32> {
-    let mut out = [0; 3210];
+    let mut out = [0; FILE_LENGTH];
     let length = plan(&file_of(book, None), &mut out).unwrap();
     assert_eq!(mark(&out[..length], &mut [0; 93]).unwrap(), Marked { mark: 4, ..Marked::default() });
     let (_, sheet) = read(&out[..length]).unwrap();
@@ -67,7 +69,7 @@ fn k10() -> Book {
 
 #[test]
 fn k1_and_k2_look_across_windows() {
-    let mut out = [0; 3210];
+    let mut out = [0; FILE_LENGTH];
     let length = plan(&file_of(&k1(), None), &mut out).unwrap();
     assert_eq!(read(&out[..length]).unwrap(), (k1(), Some(grid(&[&[4, 0], &[0, 4]]))));
     assert_eq!(marked(&k1(), &[&[2, 0], &[2, 4]]), (improvable(1), vec![1, 2, 1]));
@@ -161,11 +163,11 @@ fn seats_and_windows_turned_away_and_taken() {
     assert_eq!(read(&file_of_size(0, 0)).err(), refusal(7, 6));
     assert_eq!(read(&file_of_size(1, 0)).err(), refusal(8, 12));
     let mut large = Book::empty(32, 24);
-    assert_eq!(write(&large, None, &mut [0; 3210]).err(), None);
+    assert_eq!(write(&large, None, &mut [0; FILE_LENGTH]).err(), None);
     large.seats = 33;
-    assert_eq!(write(&large, None, &mut [0; 3210]).err(), refusal(7, 6));
+    assert_eq!(write(&large, None, &mut [0; FILE_LENGTH]).err(), refusal(7, 6));
     (large.seats, large.windows) = (32, 25);
-    assert_eq!(write(&large, None, &mut [0; 3210]).err(), refusal(8, 12));
+    assert_eq!(write(&large, None, &mut [0; FILE_LENGTH]).err(), refusal(8, 12));
 }
 
 /// Changes one field of the K8 file without sheet (contents 20 bytes, classes at 20, supplies at 26, caps at 30).
@@ -200,7 +202,8 @@ fn contents_turned_away() {
     for (file, number, at) in [
         (vec![], 1, 0),
         (vec![3], 1, 1),
-        (k8_with(0, 5), 2, 0),
+        (k8_with(0, 2), 2, 0),
+        (k8_with(0, 6), 2, 0),
         (k8_with(0, 4)[..25].to_vec(), 3, 25),
         (k8_with(0, 4), 4, 20),
         (k8_with(8, 3), 4, 8),
