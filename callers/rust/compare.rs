@@ -32,12 +32,16 @@ use rng::Rng;
 
 const FILES: usize = 200_000;
 
-/// What was met so far: refusals and marks by number, and what came of pairs.
+/// From this many files on, every refusal, every mark and every outcome must have come up.
+const ENOUGH: usize = 20_000;
+
+/// What was met so far: refusals and marks by number, what first seats did to plans, and what came of pairs.
 #[derive(Default)]
 pub struct Seen {
-    refusals: [usize; 18],
+    refusals: [usize; 19],
     marks: [usize; 5],
     longest_chain: u32,
+    first_seats: [usize; calls::FIRST_SEATS.len()],
     pairs: [usize; pairs::OUTCOMES.len()],
 }
 
@@ -54,13 +58,31 @@ fn main() -> ExitCode {
             println!("{turn} of {number} files and as many books and pairs: no difference");
         }
     }
-    println!("refusals by number: {:?}", &seen.refusals[1..]);
-    println!("marks by number: {:?}, the longest chain with {} moves", &seen.marks[1..], seen.longest_chain);
-    let pairs: Vec<String> =
-        pairs::OUTCOMES.iter().zip(seen.pairs).map(|(name, count)| format!("{name} {count}")).collect();
-    println!("pairs: {}", pairs.join(", "));
+    report(&seen);
+    if number >= ENOUGH && seen.lacks_something() {
+        println!("compare: something never came up");
+        return ExitCode::FAILURE;
+    }
     println!("compare: {number} files, {number} books and {number} pairs, no difference");
     ExitCode::SUCCESS
+}
+
+impl Seen {
+    fn lacks_something(&self) -> bool {
+        let counts = self.refusals[1..].iter().chain(&self.marks[1..]).chain(&self.first_seats).chain(&self.pairs);
+        counts.copied().min() == Some(0)
+    }
+}
+
+fn report(seen: &Seen) {
+    let by_name = |names: &[&str], counts: &[usize]| {
+        let counted = names.iter().zip(counts).map(|(name, count)| format!("{name} {count}"));
+        counted.collect::<Vec<_>>().join(", ")
+    };
+    println!("refusals by number, 1 to 18: {:?}", &seen.refusals[1..]);
+    println!("marks by number: {:?}, the longest chain with {} moves", &seen.marks[1..], seen.longest_chain);
+    println!("planned: {}", by_name(&calls::FIRST_SEATS, &seen.first_seats));
+    println!("pairs: {}", by_name(&pairs::OUTCOMES, &seen.pairs));
 }
 
 /// One file through the calls that take a file, one book through the writer, and one pair through the call that takes two.

@@ -111,7 +111,7 @@ pub enum Mark {
     Wasteful { window: u32, seat: u32 },
     /// Mark 2: played in this order, the moves lead to a sheet with a higher list.
     Improvable { chain: Vec<Move> },
-    /// Mark 3: the list is the highest, but the moves lead nearer to the totals that the seat rule wants.
+    /// Mark 3: the list is the highest, but the moves lead to the totals that the seat rule wants.
     Tied { chain: Vec<Move> },
     /// Mark 4.
     Settled,

@@ -1,9 +1,10 @@
 //! The calls that take a file.
 
+use super::books;
 use super::buffer::Buffer;
 use super::chain::{self, moves, totals, Bytes};
 use super::credits::raw;
-use super::reference::{self, feasible, Book, Layout, Refusal, Sheet, MOVES_LENGTH, SEATS, WINDOWS};
+use super::reference::{self, feasible, Book, Layout, Refusal, Sheet, FILE_LENGTH, MOVES_LENGTH, SEATS, WINDOWS};
 use super::rng::Rng;
 use super::Seen;
 
@@ -18,7 +19,13 @@ pub const NOTHING: raw::Book = raw::Book {
     caps: [[0; WINDOWS]; SEATS],
     has_sheet: 0,
     sheet: [[0; WINDOWS]; SEATS],
+    has_first: 0,
+    first: 0,
 };
+
+/// What a planned file's first seat can do, by place in the count.
+pub const FIRST_SEATS: [&str; 3] =
+    ["without a first seat", "with one that changes no total", "with one that changes totals"];
 
 pub fn all(rng: &mut Rng, seen: &mut Seen, file: &[u8]) -> Result<(), String> {
     read(file)?;
@@ -46,6 +53,8 @@ pub fn raw_book(book: &Book, sheet: Option<&Sheet>) -> raw::Book {
         caps: book.caps,
         has_sheet: sheet.is_some() as u32,
         sheet: sheet.copied().unwrap_or(NOTHING.sheet),
+        has_first: book.first.is_some() as u32,
+        first: book.first.unwrap_or(0),
     }
 }
 
@@ -103,24 +112,36 @@ fn plan(rng: &mut Rng, seen: &mut Seen, file: &[u8]) -> Result<(), String> {
     same("plan", library, plain)?;
     let planned = buffer.front(library.length)?;
     if library.refusal == 0 {
-        check_plan(planned, &twin[..need])
-    } else {
-        Ok(())
+        seen.first_seats[check_plan(planned, &twin[..need])?] += 1;
     }
+    Ok(())
 }
 
-/// The same file up to the sheet, which is lawful and has the same totals; and both markers give it mark 4.
-fn check_plan(planned: &[u8], plain: &[u8]) -> Result<(), String> {
+/// The same file but for the sheet, which is lawful and has the same totals; and both markers give it mark 4.
+/// Gives the place of what its first seat did.
+fn check_plan(planned: &[u8], plain: &[u8]) -> Result<usize, String> {
     let (Ok((book, Some(right))), Ok((_, Some(sheet)))) = (reference::read(plain), reference::read(planned)) else {
         return Err("plan: not a file with a sheet".to_string());
     };
-    let cells = Layout::new(book.seats, book.windows, true).sheet;
+    let cells = Layout::of(&book, true).sheet;
+    let end = cells + 2 * book.seats * book.windows;
     same("plan: bytes before the sheet", &planned[..cells], &plain[..cells])?;
+    same("plan: bytes after the sheet", &planned[end..], &plain[end..])?;
     same("plan: lawful", feasible(&book, &sheet), Ok(()))?;
     same("plan: totals", totals(&book, &sheet), totals(&book, &right))?;
     let settled = raw::MarkResult { refusal: 0, offset: 0, mark: 4, window: 0, seat: 0, moves: 0 };
     same("plan: the library's mark", raw::mark(planned, &mut [0; MOVES_LENGTH]), settled)?;
-    same("plan: the mark", reference::mark(planned, &mut [0; MOVES_LENGTH]).map(|marked| marked.mark), Ok(4))
+    same("plan: the mark", reference::mark(planned, &mut [0; MOVES_LENGTH]).map(|marked| marked.mark), Ok(4))?;
+    Ok(what_first_does(&book, &right))
+}
+
+/// Whether the book names a first seat, and whether its settled totals are others than those with seat 1 first.
+fn what_first_does(book: &Book, settled: &Sheet) -> usize {
+    if book.first.is_none() {
+        return 0;
+    }
+    let without = books::planned(&Book { first: None, ..book.clone() });
+    1 + (totals(book, &without) != totals(book, settled)) as usize
 }
 
 fn listing(rng: &mut Rng, file: &[u8]) -> Result<(), String> {

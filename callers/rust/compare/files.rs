@@ -1,6 +1,6 @@
 //! Day files: accepted ones, damaged ones and noise.
 
-use super::books::{file_of, planned, spoilt, windows_alone, KINDS};
+use super::books::{file_of, planned, spoilt, windows_alone, with_first, KINDS};
 use super::reference::{Book, Sheet, SEATS, WINDOWS};
 use super::rng::Rng;
 
@@ -34,6 +34,7 @@ pub fn size(rng: &mut Rng) -> (usize, usize) {
     }
 }
 
+/// Any kind of book, half of them with a first seat.
 pub fn book(rng: &mut Rng) -> Book {
     let (seats, windows) = size(rng);
     let mut book = KINDS[rng.below(KINDS.len())].1(rng, seats, windows);
@@ -44,7 +45,16 @@ pub fn book(rng: &mut Rng) -> Book {
         book.supplies.iter_mut().for_each(|supply| *supply %= (most * seats) as u16 + 1);
         book.classes.iter_mut().for_each(|class| *class = (*class).min(last_class as u16));
     }
-    book
+    any_first(rng, book)
+}
+
+/// Half of the books name a first seat, which is any of theirs.
+pub fn any_first(rng: &mut Rng, book: Book) -> Book {
+    if rng.once_in(2) {
+        with_first(rng, book)
+    } else {
+        Book { first: None, ..book }
+    }
 }
 
 /// A sheet as one may hand it in.
@@ -86,19 +96,20 @@ fn accepted(rng: &mut Rng) -> Vec<u8> {
     file_of(&book, sheet.as_ref())
 }
 
-/// A file with bytes flipped, fields changed, its end cut off or grown.
+/// A file with bytes flipped, fields changed (the last one, too, which may be the first seat), its end cut off or grown.
 pub fn damaged(rng: &mut Rng, mut file: Vec<u8>) -> Vec<u8> {
     for _ in 0..rng.between(1, 3) {
         let length = file.len();
         if length < 2 {
             break;
         }
-        match rng.below(6) {
+        match rng.below(7) {
             0 => file[rng.below(length)] ^= 1 << rng.below(8),
             1 => set_field(&mut file, 2 * rng.below(length / 2), EDGES[rng.below(EDGES.len())]),
-            2 => set_field(&mut file, 2 * rng.below(13.min(length / 2)), rng.below(65536) as u16),
+            2 => set_field(&mut file, 2 * rng.below(16.min(length / 2)), rng.below(65536) as u16),
             3 => file.truncate(rng.below(length + 1)),
             4 => file.truncate(length - rng.between(1, 2)),
+            5 => set_field(&mut file, length - 2, EDGES[rng.below(EDGES.len())]),
             _ => file.extend(vec![rng.below(256) as u8; rng.between(1, 3)]),
         }
     }
@@ -109,23 +120,37 @@ fn set_field(file: &mut [u8], at: usize, value: u16) {
     file[at..at + 2].copy_from_slice(&value.to_le_bytes());
 }
 
-/// A table of contents in order, over bodies of which some are longer, shorter, odd or of values at the edge.
+/// A kind and the body that goes with it.
+type Part = (usize, Vec<u8>);
+
+/// A table of contents, mostly in order, over bodies of which some are longer, shorter, odd or of values at the edge.
 fn parts(rng: &mut Rng) -> Vec<u8> {
     let (seats, windows) = size(rng);
     let (seats, windows) = (seats + rng.below(34) / 33, windows + rng.below(34) / 33);
-    let mut bodies = vec![fields(rng, seats, 8), fields(rng, windows, 4095)];
-    for _ in 2..rng.between(3, 4) {
-        bodies.push(fields(rng, seats * windows, 4095));
-    }
-    if rng.once_in(20) {
-        bodies.push(fields(rng, 1, 65535));
+    let mut parts = vec![(1, fields(rng, seats, 8)), (2, fields(rng, windows, 4095))];
+    parts.push((3, fields(rng, seats * windows, 4095)));
+    for kind in optional_kinds(rng) {
+        let body = if kind == 4 { fields(rng, seats * windows, 4095) } else { fields(rng, 1, seats) };
+        parts.push((kind, body));
     }
     if rng.once_in(2) {
-        let at = rng.below(bodies.len());
-        let length = if rng.once_in(2) { bodies[at].len() + rng.between(1, 2) } else { rng.below(70) };
-        bodies[at].resize(length, 1);
+        let at = rng.below(parts.len());
+        let length = if rng.once_in(2) { parts[at].1.len() + rng.between(1, 2) } else { rng.below(70) };
+        parts[at].1.resize(length, 1);
     }
-    assemble(rng, &bodies)
+    assemble(rng, &parts)
+}
+
+/// The kinds after kind 3: mostly in order, and at times turned round, twice, unknown or one too many.
+fn optional_kinds(rng: &mut Rng) -> Vec<usize> {
+    let wrong = [&[5, 4][..], &[5, 5], &[4, 4], &[6], &[4, 6], &[5, 6], &[3, 5], &[4, 5, 6], &[5, 5, 5]];
+    match rng.below(9) {
+        0 => wrong[rng.below(wrong.len())].to_vec(),
+        1 | 2 => vec![],
+        3 | 4 => vec![4],
+        5 | 6 => vec![5],
+        _ => vec![4, 5],
+    }
 }
 
 /// That many fields from 1 to `most`, one in some hundred just beyond.
@@ -135,12 +160,12 @@ fn fields(rng: &mut Rng, number: usize, most: usize) -> Vec<u8> {
     (0..number).map(value).flat_map(|value| (value as u16).to_le_bytes()).collect()
 }
 
-/// The file of these bodies; one kind or start in some may be wrong.
-fn assemble(rng: &mut Rng, bodies: &[Vec<u8>]) -> Vec<u8> {
-    let mut start = 2 + 6 * bodies.len();
-    let mut contents = vec![bodies.len()];
-    for (place, body) in bodies.iter().enumerate() {
-        contents.extend([place + 1, start, body.len()]);
+/// The file of these parts; one kind, start or length in some may be wrong.
+fn assemble(rng: &mut Rng, parts: &[Part]) -> Vec<u8> {
+    let mut start = 2 + 6 * parts.len();
+    let mut contents = vec![parts.len()];
+    for (kind, body) in parts {
+        contents.extend([*kind, start, body.len()]);
         start += body.len();
     }
     if rng.once_in(8) {
@@ -148,7 +173,7 @@ fn assemble(rng: &mut Rng, bodies: &[Vec<u8>]) -> Vec<u8> {
         contents[place] = rng.below(10);
     }
     let contents = contents.iter().flat_map(|&field| (field as u16).to_le_bytes());
-    contents.chain(bodies.iter().flatten().copied()).collect()
+    contents.chain(parts.iter().flat_map(|(_, body)| body.iter().copied())).collect()
 }
 
 /// Any bytes, most often few; at times far more than a file has.
@@ -160,7 +185,7 @@ fn noise(rng: &mut Rng) -> Vec<u8> {
     };
     let mut file: Vec<u8> = (0..length).map(|_| rng.below(256) as u8).collect();
     if length >= 2 && !rng.once_in(8) {
-        file[..2].copy_from_slice(&[rng.between(3, 4) as u8, 0]);
+        file[..2].copy_from_slice(&[rng.between(3, 5) as u8, 0]);
     }
     file
 }

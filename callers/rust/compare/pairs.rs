@@ -15,20 +15,35 @@ pub type Pair = [Vec<u8>; 2];
 /// A book and a lawful sheet of it.
 type Day = (Book, Sheet);
 
-/// What may come of a pair: the file of a refusal has its number as place, then come the orders of the lists.
-pub const OUTCOMES: [&str; 6] =
-    ["books differ", "first refused", "second refused", "first list lower", "equal lists", "first list higher"];
+/// What may come of a pair: the file of a refusal has its number as place, then come the orders of the lists. The last two count pairs
+/// again, of which neither file is refused: those with other first seats, and those that have nothing else different.
+pub const OUTCOMES: [&str; 8] = [
+    "books differ",
+    "first refused",
+    "second refused",
+    "first list lower",
+    "equal lists",
+    "first list higher",
+    "other first seats",
+    "only first seats differ",
+];
+const OTHER_FIRST: usize = 6;
+const ONLY_FIRST: usize = 7;
 
 pub fn draw(rng: &mut Rng) -> Pair {
     if rng.once_in(12) {
         let file = files::draw(rng);
         return [file.clone(), file];
     }
-    let mut days = match rng.below(16) {
+    let mut days = match rng.below(17) {
         0 => cut_in_two_ways(rng),
         1 | 2 => like_seats(rng),
         3 | 4 => levels_dealt(rng),
-        5..=7 => {
+        5 => {
+            let day = any_day(rng);
+            [day.clone(), day]
+        }
+        6..=8 => {
             let day = any_day(rng);
             [day.clone(), other_book(rng, day)]
         }
@@ -39,6 +54,10 @@ pub fn draw(rng: &mut Rng) -> Pair {
             [(book.clone(), sheet), (book, other.unwrap_or(sheet))]
         }
     };
+    // Other first seats make no other book.
+    if rng.once_in(2) {
+        days = days.map(|(book, sheet)| (files::any_first(rng, book), sheet));
+    }
     if rng.once_in(2) {
         days.swap(0, 1);
     }
@@ -211,6 +230,24 @@ pub fn better(seen: &mut Seen, pair: &Pair) -> Result<(), String> {
     same("better: the files", pair, &before)?;
     seen.refusals[refusal as usize] += 1;
     seen.pairs[if refusal == 0 { check_choice(pair, &library)? } else { file as usize }] += 1;
+    check_first_seats(seen, pair, &library)
+}
+
+/// Files of one book are not turned away for the first seats that they name.
+fn check_first_seats(seen: &mut Seen, pair: &Pair, library: &raw::BetterResult) -> Result<(), String> {
+    let [Ok((book, sheet)), Ok((mut other_book, other))] = [0, 1].map(|place| reference::read(&pair[place])) else {
+        return Ok(());
+    };
+    let differ = book.first != other_book.first;
+    other_book.first = book.first;
+    if !differ || book != other_book {
+        return Ok(());
+    }
+    same("better, with other first seats: refused by 17", library.refusal == 17, false)?;
+    if library.refusal == 0 {
+        seen.pairs[OTHER_FIRST] += 1;
+        seen.pairs[ONLY_FIRST] += (sheet == other) as usize;
+    }
     Ok(())
 }
 
