@@ -18,11 +18,11 @@ import subprocess
 import sys
 
 HERE = pathlib.Path(__file__).resolve().parent
-PARTS = ["classes", "supplies", "caps", "sheet"]
+PARTS = ["classes", "supplies", "caps", "sheet", "first"]  # kinds 1 to 5; a text may leave out the last two
 
 
 def parse(text):
-    """The numbers of each part: a word opens a part, its numbers follow; '#' opens a comment."""
+    """The kind and the numbers of each part: a word opens a part, its numbers follow; '#' opens a comment."""
     parts = {}
     for line in text.splitlines():
         for word in line.split("#")[0].split():
@@ -30,7 +30,7 @@ def parse(text):
                 numbers = parts[word] = []
             else:
                 numbers.append(int(word))
-    return [parts[name] for name in PARTS if name in parts]
+    return [(kind, parts[name]) for kind, name in enumerate(PARTS, start=1) if name in parts]
 
 
 def fields(numbers):
@@ -41,10 +41,10 @@ def fields(numbers):
 def day_file(parts):
     """The table of contents, then the bodies in the same order without gaps."""
     contents, start = [len(parts)], 2 + 6 * len(parts)
-    for kind, numbers in enumerate(parts, start=1):
+    for kind, numbers in parts:
         contents += [kind, start, 2 * len(numbers)]
         start += 2 * len(numbers)
-    return fields(contents) + b"".join(map(fields, parts))
+    return fields(contents) + b"".join(fields(numbers) for _, numbers in parts)
 
 
 def run(command, data):

@@ -19,10 +19,12 @@ static_assert(offsetof(credits_book, supplies) == 80, "supplies");
 static_assert(offsetof(credits_book, caps) == 128, "caps");
 static_assert(offsetof(credits_book, has_sheet) == 1664, "has_sheet");
 static_assert(offsetof(credits_book, sheet) == 1668, "sheet");
-static_assert(sizeof(credits_book) == 3208, "credits_book");
+static_assert(offsetof(credits_book, has_first) == 3204, "has_first");
+static_assert(offsetof(credits_book, first) == 3208, "first");
+static_assert(sizeof(credits_book) == 3216, "credits_book");
 static_assert(offsetof(credits_read_result, offset) == 8, "offset of a read result");
 static_assert(offsetof(credits_read_result, book) == 16, "book");
-static_assert(sizeof(credits_read_result) == 3224, "credits_read_result");
+static_assert(sizeof(credits_read_result) == 3232, "credits_read_result");
 static_assert(offsetof(credits_write_result, offset) == 8, "offset of a write result");
 static_assert(offsetof(credits_write_result, length) == 16, "length");
 static_assert(sizeof(credits_write_result) == 24, "credits_write_result");
@@ -137,7 +139,7 @@ static size_t total(const credits_book *book, size_t seat) {
 
 static const char *const examples[] = {"k01", "k02", "k03",  "k04",  "k05", "k06", "k07",        "k08",
                                        "k09", "k10a", "k10b", "k11", "k12", "full-alone", "full-fixed", "full-ladder",
-                                       "pair-a", "pair-b"};
+                                       "pair-a", "pair-b", "first-k03", "first-k04", "first-three", "full-first"};
 
 static void try_example(const char *folder, const char *name) {
     bytes file = load(folder, name, ".day");
@@ -148,6 +150,7 @@ static void try_example(const char *folder, const char *name) {
     credits_book fair = book_in(plan);
     CHECK(fair.has_sheet == 1 && fair.seats == book.seats && fair.windows == book.windows);
     CHECK(memcmp(fair.caps, book.caps, sizeof book.caps) == 0);
+    CHECK(fair.has_first == book.has_first && fair.first == book.first);
     bytes moves = block(CREDITS_MOVES_MAX);
     credits_mark_result m = credits_mark(plan.at, plan.length, moves.at, moves.length);
     CHECK(m.refusal == CREDITS_OK && m.offset == 0 && m.mark == CREDITS_SETTLED);
@@ -222,11 +225,11 @@ static credits_better_result better(bytes first, bytes second) {
     return credits_better(first.at, first.length, second.at, second.length);
 }
 
-/* The sheet body is the last part of its file. */
+/* The sheet body is the last part of its file but for the first seat. */
 static int chosen(credits_better_result r, uint32_t number, bytes file) {
     credits_book book = book_in(file);
-    size_t length = 2 * book.seats * book.windows;
-    return r.refusal == CREDITS_OK && r.offset == 0 && r.file == number && r.start == file.length - length && r.length == length;
+    size_t length = 2 * book.seats * book.windows, after = book.has_first ? 2 : 0;
+    return r.refusal == CREDITS_OK && r.offset == 0 && r.file == number && r.start == file.length - after - length && r.length == length;
 }
 
 static int turned_away(credits_better_result r, uint32_t number, size_t offset, uint32_t file) {
@@ -273,6 +276,49 @@ static void try_refused_pairs(const char *folder) {
     free(k08.at);
 }
 
+/* ---- another seat comes first */
+
+/* K3's book with that seat first, planned: which of its two seats has the credit more. The file keeps the first seat. */
+static unsigned winner(credits_book book, uint16_t first) {
+    book.has_first = 1;
+    book.first = first;
+    bytes file = written(book), plan = planned(file);
+    credits_book fair = book_in(plan);
+    CHECK(fair.has_first == 1 && fair.first == first && fair.has_sheet == 1);
+    CHECK(plan.at[plan.length - 2] == first && plan.at[plan.length - 1] == 0);
+    unsigned won = total(&fair, 0) == 2 ? 1 : 2;
+    CHECK(total(&fair, won - 1) == 2 && total(&fair, 2 - won) == 1);
+    printf("k03 with seat %u first: totals %zu %zu\n", first, total(&fair, 0), total(&fair, 1));
+    free(plan.at);
+    free(file.at);
+    return won;
+}
+
+static void try_first_seats(const char *folder) {
+    bytes k03 = load(folder, "k03", ".day"), other = load(folder, "first-k03", ".day");
+    bytes plan = planned(k03), other_plan = planned(other);
+    credits_book book = book_in(k03);
+    CHECK(book.has_first == 0 && book.first == 0);
+    CHECK(winner(book, 1) == 1 && winner(book, 2) == 2);
+    /* a sheet that is settled on one day is tied on the other, and both have the same list */
+    credits_book fair = book_in(plan);
+    CHECK(fair.has_first == 0 && fair.first == 0);
+    fair.has_first = 1;
+    fair.first = 2;
+    bytes tied = written(fair), moves = block(CREDITS_MOVES_MAX);
+    credits_mark_result m = credits_mark(tied.at, tied.length, moves.at, moves.length);
+    CHECK(m.mark == CREDITS_TIED && m.moves == 1 && memcmp(moves.at, "\1\1\2", 3) == 0 && untouched(moves, 3));
+    CHECK(chosen(better(plan, other_plan), 1, plan) && chosen(better(other_plan, plan), 1, other_plan));
+    printf("k03 planned with seat 1 first: tied where seat 2 comes first, with the same list\n");
+    free(moves.at);
+    free(tied.at);
+    free(other_plan.at);
+    free(plan.at);
+    free(other.at);
+    free(k03.at);
+}
+
+
 /* ---- refusals, which leave every buffer as it was */
 
 static int refused(credits_write_result r, uint32_t number, size_t offset) {
@@ -281,7 +327,8 @@ static int refused(credits_write_result r, uint32_t number, size_t offset) {
 
 static int all_zero(const credits_book *b) {
     static const credits_book zero;
-    return b->seats == 0 && b->windows == 0 && b->has_sheet == 0 && memcmp(b->classes, zero.classes, sizeof b->classes) == 0 &&
+    return b->seats == 0 && b->windows == 0 && b->has_sheet == 0 && b->has_first == 0 && b->first == 0 &&
+           memcmp(b->classes, zero.classes, sizeof b->classes) == 0 &&
            memcmp(b->supplies, zero.supplies, sizeof b->supplies) == 0 && memcmp(b->caps, zero.caps, sizeof b->caps) == 0 &&
            memcmp(b->sheet, zero.sheet, sizeof b->sheet) == 0;
 }
@@ -333,6 +380,28 @@ static void try_short_buffers(const char *folder) {
     free(file.at);
 }
 
+/* A first seat has to be in the book; where none is named, the number beside is not looked at. */
+static void try_wrong_first(const char *folder) {
+    static const uint16_t wrong[] = {0, 3, 65535};
+    bytes file = load(folder, "first-k04", ".day"), k04 = load(folder, "k04", ".day"), out = block(CREDITS_FILE_MAX);
+    credits_book book = book_in(file);
+    CHECK(book.has_first == 1 && book.first == 2);
+    for (size_t i = 0; i < sizeof wrong / sizeof wrong[0]; i++) {
+        book.first = wrong[i];
+        CHECK(refused(credits_write(book, out.at, out.length), CREDITS_REFUSED_FIRST, file.length - 2) && untouched(out, 0));
+        file.at[file.length - 2] = wrong[i] % 256;
+        file.at[file.length - 1] = wrong[i] / 256;
+        expect_refused(file, CREDITS_REFUSED_FIRST, file.length - 2);
+    }
+    book.has_first = 0;
+    bytes without = written(book);
+    CHECK(same(without.at, k04, without.length) && without.length == file.length - 6 - 2);
+    free(without.at);
+    free(out.at);
+    free(k04.at);
+    free(file.at);
+}
+
 static void try_books(const char *folder) {
     bytes file = load(folder, "k08", ".day"), out = block(CREDITS_FILE_MAX);
     credits_book book = book_in(file);
@@ -361,8 +430,10 @@ int main(int argc, char **argv) {
     try_chain(folder);
     try_waste(folder);
     for (size_t i = 0; i < sizeof examples / sizeof examples[0]; i++) try_better(folder, examples[i]);
+    try_first_seats(folder);
     try_refused_pairs(folder);
     try_refused_files(folder);
+    try_wrong_first(folder);
     try_short_buffers(folder);
     try_books(folder);
     printf("C: %d checks passed\n", checks);

@@ -4,7 +4,7 @@ import os
 from typing import NamedTuple
 
 SEATS, WINDOWS = 32, 24
-FILE_MAX, MOVES_MAX, LISTING_MAX = 3210, 93, 3453
+FILE_MAX, MOVES_MAX, LISTING_MAX = 3218, 93, 3453
 WASTEFUL, IMPROVABLE, TIED, SETTLED = 1, 2, 3, 4
 
 Row = ctypes.c_uint16 * WINDOWS
@@ -12,9 +12,20 @@ Grid = Row * SEATS
 
 
 class Book(ctypes.Structure):
-    """A book in memory; seats and windows count from 0. There is a sheet unless has_sheet is 0."""
+    """A book in memory; seats and windows count from 0. There is a sheet unless has_sheet is 0.
+
+    Unless has_first is 0, `first` is the seat that comes first today, counted from 1; `first_seat` has None in place of the two."""
     _fields_ = [('seats', ctypes.c_size_t), ('windows', ctypes.c_size_t), ('classes', ctypes.c_uint16 * SEATS),
-                ('supplies', Row), ('caps', Grid), ('has_sheet', ctypes.c_uint32), ('sheet', Grid)]
+                ('supplies', Row), ('caps', Grid), ('has_sheet', ctypes.c_uint32), ('sheet', Grid),
+                ('has_first', ctypes.c_uint32), ('first', ctypes.c_uint16)]
+
+    @property
+    def first_seat(self):
+        return self.first if self.has_first else None
+
+    @first_seat.setter
+    def first_seat(self, seat):
+        self.has_first, self.first = (0, 0) if seat is None else (1, seat)
 
     def total(self, seat):
         return sum(self.sheet[seat][:self.windows])

@@ -24,6 +24,7 @@ def try_example(day):
     book = credits.read(file)
     assert credits.write(book) == file
     plan = credits.plan(file)
+    assert credits.read(plan).first_seat == book.first_seat
     assert credits.mark(plan) == (credits.SETTLED, 0, 0, [])
     assert credits.listing(file) == day.with_suffix('.listing').read_text()
     assert credits.listing(plan) == day.with_suffix('.planned.listing').read_text()
@@ -70,6 +71,29 @@ def try_better():
     print('pairs refused: the first file, the second, and another book')
 
 
+def try_first_seats():
+    """K3's book with either seat first: the odd credit goes to it. Then first seats that are not in the book."""
+    book = credits.read((FOLDER / 'k03.day').read_bytes())
+    assert book.first_seat is None
+    plans = {}
+    for first, expected in ((None, [2, 1]), (1, [2, 1]), (2, [1, 2])):
+        book.first_seat = first
+        plans[first] = credits.plan(credits.write(book))
+        fair = credits.read(plans[first])
+        totals = [fair.total(i) for i in range(fair.seats)]
+        assert fair.first_seat == first and totals == expected
+        print(f'k03 with seat {first or "1 (not named)"} first: totals', *totals)
+    assert plans[2] == credits.plan((FOLDER / 'first-k03.day').read_bytes())
+    file, body = credits.better(plans[2], plans[None])
+    assert file == 1 and bytes(body) == plans[2][-6:-2]
+    for first in (0, 3, 65535):
+        book.first_seat = first
+        assert refusal(credits.write, book) == (18, 36)
+        for call in (credits.read, credits.plan, credits.mark):
+            assert refusal(call, plans[2][:-2] + first.to_bytes(2, 'little')) == (18, 46)
+    print('first seats that are not in the book: refused')
+
+
 def try_refusals():
     k11 = (FOLDER / 'k11.day').read_bytes()
     for file, number, offset in ((b'', 1, 0), (k11[:-1], 6, 25), (k11 + b'\0', 6, 27)):
@@ -93,5 +117,6 @@ for d in days:
     try_example(d)
 try_chain()
 try_better()
+try_first_seats()
 try_refusals()
 print('Python: all checks passed')
