@@ -29,13 +29,16 @@ mod timing;
 #[path = "bench/worst.rs"]
 mod worst;
 
-use books::{file_of, planned, spoilt, windows_alone, Draw, KINDS};
-use reference::{Book, Sheet};
+use books::{file_of, planned, spoilt, windows_alone, with_first, Draw, KINDS};
+use reference::{Book, Sheet, FILE_LENGTH};
 use rng::Rng;
 use timing::{side_by_side, Call, Times};
 
 const BOOKS: usize = 25;
 const ROUNDS: usize = 15;
+
+/// Books of each kind on which it is counted what the fast start leaves to settle.
+const COUNTED: usize = 1000;
 
 /// A file on which the shortest exchange path has 24 moves, the most there are.
 const LADDER: &[u8] = include_bytes!("../../examples/full-ladder.day");
@@ -58,6 +61,8 @@ fn all_tables() {
     );
     let mut csv = String::from("table,case,column,microseconds\n");
     plan_table(&mut csv);
+    first_table(&mut csv);
+    count_settling();
     mark_table(&mut csv);
     better_table(&mut csv);
     file_table(&mut csv);
@@ -127,30 +132,82 @@ fn plan_table(csv: &mut String) {
     for (kind, draw) in KINDS {
         line(csv, "plan", kind, &names, &plan_times(draw, (32, 24), true));
     }
-    let mut rng = Rng::new(7);
-    let books = KINDS.iter().flat_map(|(_, draw)| (0..BOOKS).map(|_| draw(&mut rng, 32, 24)).collect::<Vec<_>>());
-    let same = books.map(|book| agree(&book)).filter(|&same| same).count();
-    println!(
-        "All four give the same totals; library and plain Rust the same cells on {same} of {} books.",
-        KINDS.len() * BOOKS
-    );
+    println!("{}", agreement(|_, book| book));
+}
+
+/// Planning books that name a first seat; the last column is the library on the same books without it.
+fn first_table(csv: &mut String) {
+    let names = ["library", "plain Rust", "other method", "without it"];
+    heading("plan, with any first seat", &names);
+    for (kind, draw) in KINDS {
+        let mut rng = Rng::new(7);
+        let mut times = Times::default();
+        for _ in 0..BOOKS {
+            let book = draw(&mut rng, 32, 24);
+            let without = file_of(&book, None);
+            let file = file_of(&with_first(&mut rng, book), None);
+            let mut calls = planners(&file);
+            calls.truncate(3);
+            calls.extend(planners(&without).into_iter().take(1));
+            times.add(side_by_side(&mut calls, ROUNDS, 1));
+        }
+        line(csv, "first", kind, &names, &times);
+    }
+    println!("{}", agreement(with_first));
+}
+
+/// What the fast start leaves to settle, counted in plain Rust of the same method, on full-size books with any first seat.
+fn count_settling() {
+    let mut rng = Rng::new(23);
+    let (mut settled, mut turned, mut most) = (0, 0, 0);
+    for (_, draw) in KINDS {
+        for _ in 0..COUNTED {
+            let plain = draw(&mut rng, 32, 24);
+            let book = with_first(&mut rng, plain.clone());
+            let [coarse, fine, settling] = same_method::turns(&book);
+            settled += (settling > 0) as usize;
+            turned += (same_method::totals(&book) != same_method::totals(&plain)) as usize;
+            most = most.max(coarse + fine);
+        }
+    }
+    let books = KINDS.len() * COUNTED;
+    println!("Settling has something to do on {settled} of {books} books, the fast start at most {most} turns;");
+    println!("on {turned} of them the first seat changes the totals.");
+}
+
+/// A sentence on what all planners make of the same books, as they are or with something changed.
+fn agreement(change: fn(&mut Rng, Book) -> Book) -> String {
+    let (mut rng, mut same) = (Rng::new(7), 0);
+    for (_, draw) in KINDS {
+        for _ in 0..BOOKS {
+            let book = draw(&mut rng, 32, 24);
+            same += agree(&change(&mut rng, book)) as usize;
+        }
+    }
+    let books = KINDS.len() * BOOKS;
+    format!("All four give the same totals; library and plain Rust the same cells on {same} of {books} books.")
 }
 
 /// All planners must give the same totals. Says whether the library and the same method in plain Rust give the same cells.
 fn agree(book: &Book) -> bool {
     let file = file_of(book, None);
-    let mut outs = [[0; FILE_LENGTH]; 4];
-    let [library, same, other, flow] = &mut outs;
-    credits::plan(&file, library).expect("a book within its bounds");
-    same_method::plan(&file, same).expect("a book within its bounds");
-    reference::plan(&file, other).expect("a book within its bounds");
-    max_flow::plan(&file, flow).expect("a book within its bounds");
-    let totals = |out: &[u8; FILE_LENGTH]| {
-        let sheet = reference::read(out).expect("the longest file").1.expect("a planned sheet");
+    let planned = |plan: &dyn Fn(&[u8], &mut [u8]) -> Option<usize>| {
+        let mut out = vec![0; FILE_LENGTH];
+        let length = plan(&file, &mut out).expect("a book within its bounds");
+        out.truncate(length);
+        out
+    };
+    let library = planned(&|file, out| credits::plan(file, out).ok());
+    let same = planned(&|file, out| same_method::plan(file, out).ok());
+    let other = planned(&|file, out| reference::plan(file, out).ok());
+    let flow = planned(&|file, out| max_flow::plan(file, out).ok());
+    let totals = |file: &Vec<u8>| {
+        let sheet = reference::read(file).expect("a planned file").1.expect("a planned sheet");
         sheet.map(|row| row.iter().map(|&cell| cell as u32).sum::<u32>())
     };
-    assert!(outs.iter().all(|out| totals(out) == totals(&outs[0])), "the planners' totals differ");
-    outs[0] == outs[1]
+    let all_same = [&same, &other, &flow].iter().all(|file| totals(file) == totals(&library));
+    assert!(all_same, "the planners' totals differ");
+    library == same
 }
 
 /// Planning as books grow, a quarter filled: the number that grows, and the size of the book.
@@ -252,6 +309,7 @@ fn file_table(csv: &mut String) {
     let (mut reading, mut writing) = (Times::default(), Times::default());
     for _ in 0..BOOKS {
         let book = books::dense(&mut rng, 32, 24);
+        let book = with_first(&mut rng, book);
         let sheet = planned(&book);
         let file = file_of(&book, Some(&sheet));
         let same = credits::raw::read(&file).book;
@@ -262,7 +320,9 @@ fn file_table(csv: &mut String) {
         reading.add(side_by_side(&mut readers, ROUNDS, 32));
         let (mut out, mut other) = ([0; FILE_LENGTH], [0; FILE_LENGTH]);
         let mut writers = [
-            Call::new("library", || assert_eq!(credits::raw::write(black_box(same), black_box(&mut out)).length, FILE_LENGTH)),
+            Call::new("library", || {
+                assert_eq!(credits::raw::write(black_box(same), black_box(&mut out)).length, FILE_LENGTH)
+            }),
             Call::new("plain Rust", || {
                 assert!(reference::write(black_box(&book), Some(&sheet), black_box(&mut other)).is_ok())
             }),
@@ -270,7 +330,7 @@ fn file_table(csv: &mut String) {
         writing.add(side_by_side(&mut writers, ROUNDS, 32));
     }
     let names = ["library", "plain Rust"];
-    heading("the longest file, 3,210 bytes", &names);
+    heading("the longest file, 3,218 bytes", &names);
     line(csv, "file", "read", &names, &reading);
     line(csv, "file", "write", &names, &writing);
 }

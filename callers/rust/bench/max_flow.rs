@@ -161,11 +161,11 @@ impl<'a> Levels<'a> {
         (most + 1) * UNITS / self.weights[seat]
     }
 
-    /// One more credit for each open seat that stands at this level, the lower weight and the lower seat first.
+    /// One more credit for each open seat that stands at this level, the lower weight and the seat that is earlier today first.
     fn give_next(&mut self, level: u64) {
         let mut seats: Vec<usize> = (0..self.book.seats).filter(|&seat| self.open[seat]).collect();
         seats.retain(|&seat| self.totals[seat] * UNITS == level * self.weights[seat]);
-        seats.sort_by_key(|&seat| (self.weights[seat], seat));
+        seats.sort_by_key(|&seat| (self.weights[seat], self.book.place(seat)));
         for seat in seats {
             self.totals[seat] += 1;
             if !self.is_possible(&self.totals) {

@@ -18,11 +18,18 @@ pub fn turns(book: &Book) -> [usize; 3] {
     Desk::plan(book).turns
 }
 
+/// The planned totals.
+pub fn totals(book: &Book) -> [u64; SEATS] {
+    Desk::plan(book).totals
+}
+
 /// A sheet in the making with the numbers that the method looks at.
 struct Desk<'a> {
     book: &'a Book,
     grid: Sheet,
     weights: [u64; SEATS],
+    /// Per seat its place in the order of the day.
+    positions: [usize; SEATS],
     totals: [u64; SEATS],
     /// Per window the seats with room, and the seats with credits, of at least the unit.
     takers: [u32; WINDOWS],
@@ -53,12 +60,22 @@ fn members(mut set: u32) -> impl Iterator<Item = usize> {
 
 impl<'a> Desk<'a> {
     fn new(book: &'a Book) -> Desk<'a> {
-        let mut weights = [1; SEATS];
+        let first = book.first.unwrap_or(1) as usize;
+        let (mut weights, mut positions) = ([1; SEATS], [0; SEATS]);
         for seat in 0..book.seats {
             weights[seat] = WEIGHTS[book.classes[seat] as usize - 1] as u64;
+            positions[seat] = if seat + 1 < first { book.seats + seat } else { seat };
         }
-        let grid = [[0; WINDOWS]; SEATS];
-        Desk { book, grid, weights, totals: [0; SEATS], takers: [0; WINDOWS], givers: [0; WINDOWS], turns: [0; 3] }
+        Desk {
+            book,
+            grid: [[0; WINDOWS]; SEATS],
+            weights,
+            positions,
+            totals: [0; SEATS],
+            takers: [0; WINDOWS],
+            givers: [0; WINDOWS],
+            turns: [0; 3],
+        }
     }
 
     fn plan(book: &'a Book) -> Desk<'a> {
@@ -128,7 +145,8 @@ impl<'a> Desk<'a> {
     /// Does one credit come before another? Each has a seat and a height; levels are compared by cross products.
     fn precedes(&self, (a, height_a): (usize, u64), (b, height_b): (usize, u64)) -> bool {
         let (weight_a, weight_b) = (self.weights[a], self.weights[b]);
-        (height_a * weight_b, weight_a, a) < (height_b * weight_a, weight_b, b)
+        let (position_a, position_b) = (self.positions[a], self.positions[b]);
+        (height_a * weight_b, weight_a, position_a) < (height_b * weight_a, weight_b, position_b)
     }
 
     /// The seat whose next credit comes first.
@@ -152,7 +170,7 @@ impl<'a> Desk<'a> {
     /// How many credits can go from the donor to the receiver one by one, so that each comes after the receiver's next.
     fn wanted(&self, receiver: usize, donor: usize) -> u64 {
         let (weight, donor_weight) = (self.weights[receiver], self.weights[donor]);
-        let first = (weight, receiver) < (donor_weight, donor);
+        let first = (weight, self.positions[receiver]) < (donor_weight, self.positions[donor]);
         let gap = self.totals[donor] * weight + donor_weight;
         let level = self.totals[receiver] * donor_weight + !first as u64;
         (gap.saturating_sub(level) / (weight + donor_weight)).min(4095)
@@ -263,6 +281,6 @@ impl<'a> Desk<'a> {
     fn ties_wrongly(&self, receiver: usize, donor: usize) -> bool {
         self.weights[receiver] == self.weights[donor]
             && self.totals[donor] == self.totals[receiver] + 1
-            && receiver < donor
+            && self.positions[receiver] < self.positions[donor]
     }
 }

@@ -2,7 +2,7 @@
 
 use std::arch::asm;
 
-use super::books::{file_of, planned, windows_alone, KINDS};
+use super::books::{file_of, planned, windows_alone, with_first, KINDS};
 use super::rng::Rng;
 use super::{credits, LADDER};
 
@@ -45,6 +45,7 @@ pub fn report() {
     let mut files = vec![LADDER.to_vec()];
     for (_, draw) in KINDS {
         let book = draw(&mut rng, 32, 24);
+        let book = with_first(&mut rng, book);
         files.extend([planned(&book), windows_alone(&book, 0)].map(|sheet| file_of(&book, Some(&sheet))));
     }
     for (name, call) in CALLS {

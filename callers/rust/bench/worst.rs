@@ -7,7 +7,7 @@ use std::time::{Duration, Instant};
 
 use super::books::file_of;
 use super::credits;
-use super::reference::Book;
+use super::reference::{Book, FILE_LENGTH};
 use super::rng::Rng;
 use super::same_method::turns;
 use super::timing::median;
@@ -15,15 +15,23 @@ use super::timing::median;
 /// An exchange that is settled credit by credit costs about this many turns of the other parts.
 const SETTLING: usize = 20;
 
+/// How many books the search has met, and on how many of them settling had something to do.
+#[derive(Default)]
+struct Met {
+    books: usize,
+    settling: usize,
+}
+
 /// Climbs from random books for that many seconds, and reports the book that takes longest.
 pub fn search(seconds: u64) {
     let end = Instant::now() + Duration::from_secs(seconds);
-    let mut rng = Rng::new(17);
+    let (mut rng, mut met) = (Rng::new(17), Met::default());
     let (mut longest, mut climbs) = (0.0, 0);
     while Instant::now() < end {
-        let start = (0..1000).map(|_| any_book(&mut rng)).max_by_key(cost).expect("1000 books");
-        let (book, changes) =
-            climb(&mut rng, start.clone(), end.min(Instant::now() + Duration::from_secs(seconds.div_ceil(12))));
+        let books = (0..1000).map(|_| any_book(&mut rng));
+        let start = books.max_by_key(|book| met.cost(book)).expect("1000 books");
+        let until = end.min(Instant::now() + Duration::from_secs(seconds.div_ceil(12)));
+        let (book, changes) = climb(&mut rng, &mut met, start.clone(), until);
         let time = plan_time(&book);
         println!(
             "climb {climbs} from {:?} turns: {changes} changes, {:?} turns, {time:.0} µs",
@@ -37,10 +45,12 @@ pub fn search(seconds: u64) {
             std::fs::write("target/worst.day", file_of(&book, None)).expect("target/worst.day");
         }
     }
+    println!("settling had something to do on {} of {} books", met.settling, met.books);
     println!("longest plan found: {longest:.0} µs, target/worst.day");
 }
 
-/// A book with caps and supplies of any size: how high, how many and how scarce is drawn for the whole book.
+/// A book with caps and supplies of any size: how high, how many and how scarce is drawn for the whole book. Half of the books name a first
+/// seat.
 fn any_book(rng: &mut Rng) -> Book {
     let mut book = Book::empty(32, 24);
     let (highest, one_in, sixteenths) = (1 << rng.below(13), rng.between(1, 8), rng.between(1, 16));
@@ -55,23 +65,28 @@ fn any_book(rng: &mut Rng) -> Book {
         let caps: usize = book.caps.iter().map(|row| row[window] as usize).sum();
         book.supplies[window] = (caps * sixteenths / 16).min(4095) as u16;
     }
+    book.first = rng.once_in(2).then(|| rng.between(1, 32) as u16);
     book
 }
 
-fn cost(book: &Book) -> usize {
-    let [coarse, fine, settling] = turns(book);
-    coarse + fine + SETTLING * settling
+impl Met {
+    fn cost(&mut self, book: &Book) -> usize {
+        let [coarse, fine, settling] = turns(book);
+        self.books += 1;
+        self.settling += (settling > 0) as usize;
+        coarse + fine + SETTLING * settling
+    }
 }
 
 /// Small changes, kept where the book gets no easier.
-fn climb(rng: &mut Rng, mut book: Book, end: Instant) -> (Book, usize) {
-    let (mut best, mut changes) = (cost(&book), 0);
+fn climb(rng: &mut Rng, met: &mut Met, mut book: Book, end: Instant) -> (Book, usize) {
+    let (mut best, mut changes) = (met.cost(&book), 0);
     while Instant::now() < end {
         let mut other = book.clone();
         for _ in 0..=rng.below(4) {
             change(rng, &mut other);
         }
-        let turns = cost(&other);
+        let turns = met.cost(&other);
         changes += (turns > best) as usize;
         if turns >= best {
             (book, best) = (other, turns);
@@ -80,16 +95,17 @@ fn climb(rng: &mut Rng, mut book: Book, end: Instant) -> (Book, usize) {
     (book, changes)
 }
 
-/// Another class, supply or cap, or two seats' caps in a window the other way round.
+/// Another class, supply, cap or first seat, or two seats' caps in a window the other way round.
 fn change(rng: &mut Rng, book: &mut Book) {
     let (seat, other, window) = (rng.below(book.seats), rng.below(book.seats), rng.below(book.windows));
     let cap = book.caps[seat][window];
-    match rng.below(8) {
+    match rng.below(9) {
         0 => book.classes[seat] = rng.between(1, 8) as u16,
         1 => book.supplies[window] = credits_near(rng, book.supplies[window]),
         2 => book.caps[seat].swap(window, rng.below(book.windows)),
         3 => (book.caps[seat][window], book.caps[other][window]) = (book.caps[other][window], cap),
         4 => book.caps[seat][window] = 0,
+        5 => book.first = Some(seat as u16 + 1),
         _ => book.caps[seat][window] = credits_near(rng, cap),
     }
 }
