@@ -105,6 +105,7 @@ def main():
     two = ["library", "plain Rust"]
     texts = {
         "plan": table(tables["plan"], "plan", two + ["other method", "max flow"]),
+        "first": table(tables["first"], "plan, with any first seat", two + ["other method", "without it"]),
         "mark": table(tables["mark"], "mark", two),
         "better": table(tables["better"], "better", two),
         "file": table(tables["file"], "the longest file", two),

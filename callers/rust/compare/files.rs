@@ -68,7 +68,9 @@ pub fn sheet(rng: &mut Rng, book: &Book) -> Sheet {
             let (moves, most) = (1 << rng.below(7), 1 << rng.below(12));
             spoilt(rng, book, &planned(book), moves, most)
         }
-        8 | 9 => spoilt(rng, book, &planned(book), 3, 1),
+        8 => spoilt(rng, book, &planned(book), 3, 1),
+        // Settled on a day on which another seat comes first.
+        9 => planned(&any_first(rng, book.clone())),
         10 => with_other_cells(rng, book, &planned(book)),
         _ => with_other_cells(rng, book, &NO_CREDITS),
     }
