@@ -137,10 +137,19 @@ fn parts(rng: &mut Rng) -> Vec<u8> {
     }
     if rng.once_in(2) {
         let at = rng.below(parts.len());
-        let length = if rng.once_in(2) { parts[at].1.len() + rng.between(1, 2) } else { rng.below(70) };
+        let length = other_length(rng, parts[at].1.len());
         parts[at].1.resize(length, 1);
     }
     assemble(rng, &parts)
+}
+
+/// A little longer, any short length, or at times far more than a file has.
+fn other_length(rng: &mut Rng, length: usize) -> usize {
+    match rng.below(16) {
+        0 => rng.below(60_000),
+        1..=8 => length + rng.between(1, 2),
+        _ => rng.below(70),
+    }
 }
 
 /// The kinds after kind 3: mostly in order, and at times turned round, twice, unknown or one too many.
