@@ -2,14 +2,15 @@
 use mathlib.Core.Path.{_≡_, refl, sym, ap, ap₂, subst, _∙_}
 use mathlib.Core.Bool.{Bool, true, true≢false}
 use mathlib.Core.List.{List, [], _∷_}
-use mathlib.Core.Option.{Option, none}
+use mathlib.Core.Option.{none}
 use Prim.Native.Nat.{ℕ}
 use lib.Dec.{eqb}
 use borrow.Author.Tests.{eqb-true, eq-eqb}
-use Rattle.fairness.specs.Leximin.{Level, levels, profile}
-use Rattle.model.specs.Book.{Book, Grid, SheetOf, Lawful, seats, windows, instanceOf}
+use Rattle.fairness.specs.Leximin.{Level}
+use Rattle.model.specs.Book.{Book, Grid, SheetOf, Lawful, seats, windows, withFirst}
 use Rattle.model.specs.Fair.{profileOf, HighestList}
 use Rattle.model.proofs.Tests.{and-true}
+use Rattle.model.proofs.Theorems.{first-profile, first-lawful, first-highest}
 use Rattle.dayfile.specs.Layout.{bookOf}
 use Rattle.dayfile.specs.Table.{alike, sameBook, line17}
 use Rattle.dayfile.proofs.Sound.{kept}
@@ -67,22 +68,9 @@ parts-same b c h =
 
 -- ---- what is said of a sheet by these parts alone
 
--- the same book with another first seat
-abbrev named : Book → Option ℕ → Book
-named b k = record { classes = b .classes; supplies = b .supplies; caps = b .caps; first = k }
-
--- the order of the seat rule enters neither the list of a sheet nor whether it is lawful
-named-profile : (b : Book) (k : Option ℕ) (s : Grid) → profileOf b s ≡ profileOf (named b k) s
-unfolding instanceOf profile levels
-named-profile b k s = refl
-
-named-lawful : (b : Book) (k : Option ℕ) (s : Grid) → Lawful b s → Lawful (named b k) s
-unfolding instanceOf
-named-lawful b k s l = record { within = l .within; fits = l .fits }
-
 module _ (b c : Book) (h : SameParts b c) where
   -- but for their first seats the books are one
-  whole : named b none ≡ named c none
+  whole : withFirst none b ≡ withFirst none c
   whole =
       ap₂ (λ (x y : List ℕ). record { classes = x; supplies = y; caps = b .caps; first = none }) (h .classes) (h .supplies)
       ∙ ap (λ (z : Grid). record { classes = c .classes; supplies = c .supplies; caps = z; first = none }) (h .caps)
@@ -94,28 +82,20 @@ module _ (b c : Book) (h : SameParts b c) where
   parts-windows = ap windows whole
 
   pub parts-profile : (s : Grid) → profileOf b s ≡ profileOf c s
-  parts-profile s = named-profile b none s ∙ ap (λ (x : Book). profileOf x s) whole ∙ sym (named-profile c none s)
+  parts-profile s = first-profile b none s ∙ ap (λ (x : Book). profileOf x s) whole ∙ sym (first-profile c none s)
 
   pub parts-sheet : (s : Grid) → SheetOf b s → SheetOf c s
   parts-sheet s = subst (λ (x : Book). SheetOf x s) whole
 
   pub parts-lawful : (s : Grid) → Lawful b s → Lawful c s
-  parts-lawful s l = named-lawful (named c none) (c .first) s (subst (λ (x : Book). Lawful x s) whole (named-lawful b none s l))
+  parts-lawful s l = first-lawful c none s .1 (subst (λ (x : Book). Lawful x s) whole (first-lawful b none s .0 l))
+
+  pub parts-highest : (xs : List Level) → HighestList b xs → HighestList c xs
+  parts-highest xs g =
+      first-highest (withFirst none c) (c .first) xs (subst (λ (x : Book). HighestList x xs) whole (first-highest b none xs g))
 
 pub parts-back : (b c : Book) → SameParts b c → SameParts c b
 parts-back b c h = record { classes = sym (h .classes); supplies = sym (h .supplies); caps = sym (h .caps) }
-
-pub parts-highest : (b c : Book) → SameParts b c → (xs : List Level) → HighestList b xs → HighestList c xs
-parts-highest b c h xs g =
-    let back = parts-back b c h in
-    record {
-      sheet = g .sheet;
-      a-sheet = parts-sheet b c h (g .sheet) (g .a-sheet);
-      lawful = parts-lawful b c h (g .sheet) (g .lawful);
-      its-list = sym (parts-profile b c h (g .sheet)) ∙ g .its-list;
-      most = λ t shape law.
-          rw (← parts-profile b c h t) (g .most t (parts-sheet c b back t shape) (parts-lawful c b back t law));
-    }
 
 -- ---- files
 

@@ -9,7 +9,7 @@ use Rattle.lists.proofs.Arrays.{Filled, filled-at}
 use Rattle.fairness.specs.Classes.{ClassWeight, weightOf}
 use Rattle.model.specs.Lowest.{when, getOr}
 use Rattle.model.specs.Book.{Grid, seats, windows, placeFrom, instanceOf}
-use Rattle.model.proofs.Books.{place-apart}
+use Rattle.model.proofs.Places.{place-apart}
 use Rattle.dayfile.specs.Bounds.{Fit}
 use Rattle.dayfile.specs.Memory.{bookIn}
 use Rattle.dayfile.specs.declared.Book as Memory

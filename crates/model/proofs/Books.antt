@@ -1,17 +1,16 @@
--- The tests of a book's sheets mean what they say, and no two seats share a place. Assumes nothing.
+-- The tests of a book's sheets mean what they say. Assumes nothing.
 use mathlib.Core.Path.{_≡_, refl, sym, ap}
-use mathlib.Core.Bool.{Bool, true, false, not, cond, true≢false}
+use mathlib.Core.Bool.{Bool, true, not, true≢false}
 use mathlib.Core.Option.{Option, none, some}
 use mathlib.Core.Logic.{_↔_}
 use mathlib.Core.List.{[]}
-use Prim.Native.Nat.{ℕ, _+_, _<_}
-use native.Mathlib.Omega.{arith}
+use Prim.Native.Nat.{ℕ}
 use lib.Dec.{eqb, ltb}
 use lib.ListN.{length, getD}
 use borrow.Author.Tests.{eqb-true, eq-eqb, ltb-false, le-ltb, not-true, not-false}
 use Rattle.fairness.specs.Instance.{placed}
 use Rattle.model.specs.Lowest.{lowest, isSome}
-use Rattle.model.specs.Book.{Book, Grid, cell, seats, windows, placeFrom, instanceOf, SheetOf, Lawful, isSheet, isLawful}
+use Rattle.model.specs.Book.{Book, Grid, cell, seats, windows, instanceOf, SheetOf, Lawful, isSheet, isLawful}
 use Rattle.model.proofs.Tests.{and-true}
 use Rattle.model.proofs.Lowest.{Fails, lowest-none, lowest-fails}
 
@@ -73,13 +72,3 @@ lawful-test b s = (to, from)
               (λ i li. not-true _ (none-passes (windows b) (above i) .1 (λ j lj. le-ltb _ _ (h .within i j li lj)))),
           none-passes (windows b) over .1 (λ j lj. le-ltb _ _ (h .fits j lj)),
         )
-
-pub place-apart : (first n i k : ℕ) → i < n → k < n → placeFrom first n i ≡ placeFrom first n k → i ≡ k
-unfolding placeFrom
-place-apart first n i k li lk = apart (ltb (i + 1) first) (ltb (k + 1) first)
-  where
-    apart : (s t : Bool) → cond s (n + i) i ≡ cond t (n + k) k → i ≡ k
-    apart true true e = omega (arith, e)
-    apart true false e = omega (arith, e)
-    apart false true e = omega (arith, e)
-    apart false false e = e

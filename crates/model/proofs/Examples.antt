@@ -65,7 +65,7 @@ unfolding allHold
 all-hold [] h = tt
 all-hold (e ∷ es) h = let both = and-true _ _ .0 h in (holds-true e (both .0), all-hold es (both .1))
 
--- the marks, numbers of moves and totals of K1 to K10 and K12 are those that paper 01 gives; those of paper 02's order follow from its words
+-- the marks, numbers of moves and totals of K1 to K10 and K12 are those that paper 01 gives; those behind them follow from paper 02
 pub starred-examples-hold : All Holds examples
 unfolding sameList holds allHold isSheet isLawful totals placeFrom instanceOf lowest sum table weightOf
     markOf wastedWindow seatBelow search firstReceiver donorOf fewest reached layer grow canTake filter any member

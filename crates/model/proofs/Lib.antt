@@ -2,6 +2,7 @@ pub mod Tests
 pub mod Lowest
 pub mod Grids
 pub mod Books
+pub mod Places
 pub mod Examples
 -- what the search and the marks mean
 pub mod Sets

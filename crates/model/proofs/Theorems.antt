@@ -1,23 +1,24 @@
 -- The rules of paper 01 and demand 3: a mark passes exactly where the sheet's list is the book's highest. Stated with the definitions
 -- of specs/ alone; the other files of this folder work towards them.
-use mathlib.Core.Path.{_≡_, refl, sym}
+use mathlib.Core.Path.{_≡_, refl, sym, _∙_}
 use mathlib.Core.Bool.{true, true≢false}
 use mathlib.Core.Logic.{_⊎_, _↔_}
 use mathlib.Core.List.{List}
+use mathlib.Core.Option.{Option}
 use Prim.Native.Nat.{ℕ, _<_}
 use lib.ListN.{getD}
 use Rattle.fairness.specs.Instance.{Proper, Feasible}
-use Rattle.fairness.specs.Leximin.{Level, NoHigher, Equal, Higher, profile, Highest}
+use Rattle.fairness.specs.Leximin.{Level, NoHigher, Equal, Higher, levels, profile, Highest}
 use Rattle.fairness.specs.Exchange.{Move, playAll, PlaysOut, Settled}
 use Rattle.fairness.proofs.Theorems as fairness
 use Rattle.fairness.proofs.Weights.{weight-bounds}
-use Rattle.model.specs.Book.{Book, Grid, SheetOf, Lawful, cell, seats, windows, firstSeat, instanceOf, totals}
+use Rattle.model.specs.Book.{Book, Grid, SheetOf, Lawful, cell, seats, windows, withFirst, firstSeat, instanceOf, totals}
 use Rattle.model.specs.Fair.{profileOf, HighestList}
 use Rattle.model.specs.Search.{Found, PathOn}
 use Rattle.model.specs.Marks.{Mark, wasteful, improvable, tied, settled, Marked, markOf, passes}
 use Rattle.model.proofs.Grids.{table-same, gridOf, gridOf-cell, gridOf-shaped, agree-feasible, agree-profile}
 use Rattle.model.proofs.Agree.{agree-settled}
-use Rattle.model.proofs.Books.{place-apart}
+use Rattle.model.proofs.Places.{place-apart}
 use Rattle.model.proofs.Marks.{mark-means, waste-of}
 
 module _ (b : Book) where
@@ -149,3 +150,40 @@ module _ (b : Book) where
     where
       same : (T : ℕ → ℕ → ℕ) (i j : ℕ) → i < seats b → j < windows b → T i j ≡ cell (gridOf (seats b) (windows b) T) i j
       same T i j li lj = sym (gridOf-cell (seats b) (windows b) T i j li lj)
+
+-- ---- another seat named as the first
+
+module _ (b : Book) (k : Option ℕ) where
+  -- the order of the seat rule enters neither a sheet's list nor whether it is lawful
+  pub first-profile : (s : Grid) → profileOf b s ≡ profileOf (withFirst k b) s
+  unfolding instanceOf profile levels
+  first-profile s = refl
+
+  pub first-lawful : (s : Grid) → Lawful b s ↔ Lawful (withFirst k b) s
+  unfolding instanceOf
+  first-lawful s = (λ l. record { within = l .within; fits = l .fits }, λ l. record { within = l .within; fits = l .fits })
+
+  -- nor the highest list
+  pub first-highest : (xs : List Level) → HighestList b xs → HighestList (withFirst k b) xs
+  first-highest xs h =
+      record {
+        sheet = h .sheet;
+        a-sheet = h .a-sheet;
+        lawful = first-lawful (h .sheet) .0 (h .lawful);
+        its-list = sym (first-profile (h .sheet)) ∙ h .its-list;
+        most = λ t shape law. rw (← first-profile t) (h .most t shape (first-lawful t .1 law));
+      }
+
+-- so it decides ties alone: the same sheets pass
+pub first-passes : (b : Book) (k : Option ℕ) (s : Grid) → SheetOf b s → Lawful b s
+    → (passes (markOf b s) ≡ true) ↔ (passes (markOf (withFirst k b) s) ≡ true)
+first-passes b k s shape lawful = (
+  λ e. there .1 (rw (← first-profile b k s) (first-highest b k (profileOf b s) (here .0 e))),
+  λ e. here .1 (rw (first-profile b k s) (first-highest (withFirst k b) (b .first) (profileOf (withFirst k b) s) (there .0 e))),
+)
+  where
+    here : (passes (markOf b s) ≡ true) ↔ HighestList b (profileOf b s)
+    here = passes-highest b s shape lawful
+
+    there : (passes (markOf (withFirst k b) s) ≡ true) ↔ HighestList (withFirst k b) (profileOf (withFirst k b) s)
+    there = passes-highest (withFirst k b) s shape (first-lawful b k s .0 lawful)

@@ -39,6 +39,10 @@ seats b = length (b .classes)
 abbrev pub windows : Book → ℕ
 windows b = length (b .supplies)
 
+-- the same book where another seat is named, or none
+abbrev pub withFirst : Option ℕ → Book → Book
+withFirst k b = record { classes = b .classes; supplies = b .supplies; caps = b .caps; first = k }
+
 -- the seat that comes first: without a name it is seat 1
 abbrev pub firstSeat : Book → ℕ
 firstSeat b = getOr (b .first) 1

@@ -3,9 +3,9 @@
 -- order of the seat rule, on books of our own.
 use mathlib.Core.Path.{_≡_}
 use mathlib.Core.List.{List, [], _∷_}
-use mathlib.Core.Option.{Option, none, some}
+use mathlib.Core.Option.{none, some}
 use Prim.Native.Nat.{ℕ}
-use Rattle.model.specs.Book.{Book, Grid, SheetOf, Lawful, totals}
+use Rattle.model.specs.Book.{Book, Grid, SheetOf, Lawful, withFirst, totals}
 use Rattle.model.specs.Marks.{markOf, resultOf}
 
 pub record Example : Type 0 where
@@ -26,9 +26,9 @@ pub record Holds (e : Example) : Type 0 where
 abbrev book : List ℕ → List ℕ → Grid → Book
 book classes supplies caps = record { classes = classes; supplies = supplies; caps = caps; first = none }
 
--- the same book, with the seat that comes first
+-- a book with the seat that comes first
 abbrev firstIs : ℕ → Book → Book
-firstIs k b = record { classes = b .classes; supplies = b .supplies; caps = b .caps; first = some k }
+firstIs k b = withFirst (some k) b
 
 abbrev example : Book → Grid → ℕ → ℕ → List ℕ → Example
 example b s mark moves sums = record { book = b; sheet = s; mark = mark; moves = moves; sums = sums }
