@@ -11,6 +11,7 @@ use dayfile::Day;
 use oracle::Small;
 use oracle::memory::book_of;
 use oracle::memory::grid_of;
+use oracle::paths::byte;
 use sheet::Caps;
 
 // A byte, if there is one at that offset.
@@ -59,16 +60,28 @@ fn put_entry(file: &mut [u8], at: usize, kind: u8, start: u8, size: u8)
     set(file, at + 4, size);
 }
 
+// The kind of an entry: after kind 3 any of 4, 5 and 6, so that some do not rise and some are unknown.
+fn draw_kind(state: &mut u32, e: u8) -> u8
+    requires { ⌜ e < 5 ⌝ }
+{
+    if e < 3 {
+        e + 1
+    } else {
+        4 + below(state, 3) as u8
+    }
+}
+
 // Contents whose starts are right, with bodies of any length below 6; the offset where the last body ends.
 fn draw_contents(state: &mut u32, file: &mut [u8], entries: u8) -> u8
-    requires { ⌜ entries ≤ 4 ⌝ }
-    ensures { λ r. ⌜ r ≤ 46 ⌝ }
+    requires { ⌜ entries ≤ 5 ⌝ }
+    ensures { λ r. ⌜ r ≤ 57 ⌝ }
 {
     set(file, 0, entries);
     let mut end = 2 + 6 * entries;
     for e in 0..entries {
+        let kind = draw_kind(state, e);
         let size = below(state, 6) as u8;
-        put_entry(file, 2 + 6 * e as usize, e + 1, end, size);
+        put_entry(file, 2 + 6 * e as usize, kind, end, size);
         end += size;
     }
     end
@@ -83,7 +96,7 @@ fn draw_bodies(state: &mut u32, file: &mut [u8], from: usize, to: usize) {
 
 // A file made up of contents and any small bodies.
 fn draw_made(state: &mut u32, file: &mut [u8]) -> usize {
-    let entries = 3 + below(state, 2) as u8;
+    let entries = 3 + below(state, 3) as u8;
     let end = draw_contents(state, file, entries) as usize;
     draw_bodies(state, file, 2 + 6 * entries as usize, end);
     end
@@ -103,9 +116,20 @@ fn longer(length: usize) -> usize {
     if length < 100 { length + 1 } else { length }
 }
 
-// A file that is left as it is, cut, longer by a byte, or has a byte changed: anywhere, in the contents, or in the bodies. Its length.
+// The last body gets any length below 6, and the file ends where it does: else line 6 would hide what its length means. The contents end
+// with that length, two bytes of which the high one is 0.
+fn resize(state: &mut u32, file: &mut [u8], length: usize) -> usize {
+    let at = 6 * byte(file, 0) as usize;
+    let size = offset(state, 6);
+    let ahead = std::num::wrapping_sub_usize(length, byte(file, at) as usize);
+    set(file, at, size as u8);
+    std::num::wrapping_add_usize(ahead, size)
+}
+
+// A file that is left as it is, cut, longer by a byte, or has a byte changed: anywhere, in the contents, in the bodies, or in the last
+// field; or its last body has another length. Its length.
 fn damage(state: &mut u32, file: &mut [u8], length: usize) -> usize {
-    let way = below(state, 6);
+    let way = below(state, 8);
     match way {
         0 => length,
         1 => offset(state, length),
@@ -115,13 +139,24 @@ fn damage(state: &mut u32, file: &mut [u8], length: usize) -> usize {
             length
         }
         4 => {
-            change(state, file, 0, 26, 8);
+            change(state, file, 0, 32, 8);
             length
         }
-        _ => {
+        5 => {
             change(state, file, 20, length, 256);
             length
         }
+        6 => {
+            change(
+                state,
+                file,
+                std::num::wrapping_sub_usize(length, 2),
+                length,
+                6,
+            );
+            length
+        }
+        _ => resize(state, file, length),
     }
 }
 
@@ -135,14 +170,14 @@ pub fn draw_file(state: &mut u32, file: &mut [u8]) -> usize {
     damage(state, file, length)
 }
 
-// A hand-in of a book: mostly as it was written, or damaged, or with a small number changed.
+// A hand-in of a book: mostly as it was written, or damaged, or with a small number changed behind the contents.
 pub fn draw_hand_in(state: &mut u32, file: &mut [u8], s: Small) -> usize {
     let length = draw_written(state, file, s);
     let way = below(state, 8);
     match way {
         0 => damage(state, file, length),
         1 | 2 => {
-            change(state, file, 26, length, 6);
+            change(state, file, 2 + 6 * byte(file, 0) as usize, length, 6);
             length
         }
         _ => length,
@@ -152,7 +187,7 @@ pub fn draw_hand_in(state: &mut u32, file: &mut [u8], s: Small) -> usize {
 // A book of a small one's numbers, in which one of them may be out of its range.
 fn damage_book(state: &mut u32, s: Small) -> Book {
     let mut book = book_of(s);
-    let way = below(state, 5);
+    let way = below(state, 6);
     match way {
         0 => {
             book.seats = offset(state, 40);
@@ -167,6 +202,10 @@ fn damage_book(state: &mut u32, s: Small) -> Book {
         3 => {
             let w = below(state, 3) as usize;
             book.supplies[w] = 4094 + up_to(state, 3);
+        }
+        4 => {
+            book.has_first = below(state, 4) != 0;
+            book.first = up_to(state, 5) + 256 * up_to(state, 1);
         }
         _ => {}
     }

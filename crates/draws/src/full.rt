@@ -1,5 +1,6 @@
 // Random books of 32 seats and 24 windows.
 use crate::below;
+use crate::draw_cap;
 use crate::draw_classes;
 use crate::draw_row;
 use dayfile::Book;
@@ -27,15 +28,18 @@ fn draw_most(state: &mut u32) -> u16 {
     }
 }
 
-// The book, but for its caps, with supplies that are about what such caps ask for, or less.
+// The book, but for its caps, with supplies that are about what such caps ask for, or less. In a third of the books no first seat is named.
 fn draw_book(state: &mut u32, most: u16) -> Book {
     let classes = draw_classes(state, 32, 7);
     let supplies = draw_row(state, 24, if most < 256 { 16 * most } else { 4095 }, false);
+    let first = draw_cap(state, 32, true);
     Book {
         seats: 32,
         windows: 24,
         classes,
         supplies,
+        has_first: first != 0,
+        first,
     }
 }
 

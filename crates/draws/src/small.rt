@@ -14,7 +14,7 @@ pub fn draw_cells(state: &mut u32, seats: usize, windows: usize, most: u16) -> [
     cells
 }
 
-// Often of a few classes only, so that there are ties.
+// Often of a few classes only, so that there are ties. Any seat is the first, seat 1 too, or none is named.
 pub fn draw_small(state: &mut u32) -> Small {
     let seats = 1 + below(state, 4) as usize;
     let windows = 1 + below(state, 3) as usize;
@@ -23,19 +23,22 @@ pub fn draw_small(state: &mut u32) -> Small {
     let supplies = draw_row(state, windows, 4, false);
     let most = 1 + up_to(state, 2);
     let caps = draw_cells(state, seats, windows, most);
+    let first = up_to(state, seats as u16);
     Small {
         seats,
         windows,
         classes,
         supplies,
         caps,
+        first,
     }
 }
 
-// Mostly the same book again.
-pub fn draw_other(state: &mut u32, s: Small) -> Small {
+// Mostly the same book again, on a day when seat 1 is named as the first, or none is.
+pub fn draw_other(state: &mut u32, mut s: Small) -> Small {
     if below(state, 8) == 0 {
         return draw_small(state);
     }
+    s.first = up_to(state, 1);
     s
 }

@@ -1,6 +1,7 @@
-// A test oracle: paper 01's rules for small books, anew and in the plainest way. It shares no code with what it is held against.
+// A test oracle: the papers' rules for small books, anew and in the plainest way. It shares no code with what it is held against.
 //
-// A book has up to 4 seats and 3 windows, a sheet 12 cells, 3 for each seat. Outside the book cells, caps and supplies are 0.
+// A book has up to 4 seats and 3 windows, a sheet 12 cells, 3 for each seat. Outside the book cells, caps and supplies are 0. Where no seat
+// is named as the first, `first` is 0: no file that is taken holds a seat 0.
 pub mod marks;
 pub mod memory;
 pub mod numbers;
@@ -13,6 +14,7 @@ pub struct Small {
     pub classes: [u16; 32],
     pub supplies: [u16; 24],
     pub caps: [u16; 12],
+    pub first: u16,
 }
 
 // One more, or 0 again above the cap.

@@ -39,7 +39,7 @@ fn is_best(s: Small, best: [u64; 8], cells: &[u16; 12]) -> bool {
 }
 
 // Marks 3 and 4 tell that the profile is the highest, marks 1 and 2 that it is not. Mark 2: the profile after the moves is higher.
-// Mark 3: it is the highest too, and the moves give a lower seat more. Mark 4: the totals are the settled ones.
+// Mark 3: it is the highest too, and the moves give an earlier seat more. Mark 4: the totals are the settled ones.
 fn rightly_fair(s: Small, best: [u64; 8], cells: &[u16; 12], mark: u8, after: &[u16; 12]) -> bool {
     let rank = rank_of(s, cells);
     let next = rank_of(s, after);

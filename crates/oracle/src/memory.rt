@@ -1,6 +1,5 @@
 // Small books and sheets in the form that the library takes.
 use crate::Small;
-use crate::paths::byte;
 use dayfile::Book;
 use dayfile::Day;
 use sheet::Caps;
@@ -14,6 +13,8 @@ pub fn book_of(s: Small) -> Book {
         windows: s.windows,
         classes,
         supplies,
+        has_first: s.first != 0,
+        first: s.first,
     }
 }
 
@@ -50,10 +51,6 @@ pub fn small_of(day: Day) -> Small {
         classes,
         supplies,
         caps: cells_of(day.caps.to_grid()),
+        first: book.first,
     }
-}
-
-// How many bytes the sheet of a small book's file has: as many as the caps, whose length is the field at 18. They are the file's last ones.
-pub fn sheet_size(file: &[u8]) -> usize {
-    byte(file, 18) as usize
 }

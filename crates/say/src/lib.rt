@@ -1,4 +1,5 @@
 // What the test programs are made of: numbers in a text, text on the standard output, answers in numbers, a look at the bytes of a buffer.
+ghost use Prim.Native.Nat.{_<_};
 use dayfile::Check;
 use dayfile::Written;
 
@@ -115,30 +116,38 @@ pub fn all_from(bytes: &[u8], at: usize, value: u8) -> bool {
     true
 }
 
-// As many counts as a report can have.
-pub const COUNTS: usize = 52;
+// The counts of a report: three for each of 19 numbers, and behind them how much was wrong.
+pub const COUNTS: usize = 58;
 
-fn say_count(n: u32) {
+fn say_count(name: &[u8], n: u32) {
+    say_text(name);
     say_number(n as usize);
 }
 
-// A byte of a report: one from 128 on stands for the count at that place.
-fn say_part(c: u8, counts: &[u32; COUNTS]) {
-    let place = c as usize;
-    if place < 128 {
-        say_text(&[c]);
+// The line of a number; none where its three counts are 0.
+fn say_row(counts: &[u32; COUNTS], row: usize)
+    requires { ⌜ row < 19 ⌝ }
+{
+    let a = counts[3 * row];
+    let b = counts[3 * row + 1];
+    let c = counts[3 * row + 2];
+    if (a == 0) & (b == 0) & (c == 0) {
         return;
     }
-    if place < 128 + COUNTS {
-        say_count(counts[place - 128]);
-    }
+    say_text(b"  ");
+    say_number(row);
+    say_count(b": ", a);
+    say_count(b", ", b);
+    say_count(b", ", c);
+    say_text(b"\n");
 }
 
-// A text with counts in it.
-pub fn say_report(text: &[u8], counts: &[u32; COUNTS]) {
-    let mut i = 0;
-    while i < text.len() {
-        say_part(text[i], counts);
-        i += 1;
+// What was counted, with a line ahead that says of what.
+pub fn say_report(title: &[u8], counts: &[u32; COUNTS]) {
+    say_text(title);
+    for row in 0..19usize {
+        say_row(counts, row);
     }
+    say_count(b"  wrong: ", counts[57]);
+    say_text(b"\n");
 }

@@ -12,18 +12,26 @@ use draws::small::draw_other;
 use draws::small::draw_small;
 use lawful::MOVES_ROOM;
 use oracle::memory::cells_of;
-use oracle::memory::sheet_size;
 use oracle::memory::small_of;
+use oracle::paths::byte;
 use oracle::paths::play;
 use oracle::rules::above;
 use oracle::rules::rank_of;
 use say::front;
 use say::numbers;
 
-// Line 17 does not hold: what stands ahead of the sheet, with the contents that say how much it is, is the same.
+// The bodies between the contents and the sheet: classes, supplies and caps. No start is above 255.
+fn book_in(file: &[u8]) -> &[u8] {
+    let start = byte(file, 4) as usize;
+    let end = byte(file, 22) as usize;
+    numbers::bytes(file, start / 2, std::num::wrapping_sub_usize(end, start))
+}
+
+// Line 17 does not hold: these bodies are the same, and so are the numbers of seats and windows, by the lengths of the first two.
 fn one_book(first: &[u8], second: &[u8]) -> bool {
-    let ahead = std::num::wrapping_sub_usize(first.len(), sheet_size(first));
-    check::same(front(first, ahead), front(second, ahead))
+    (byte(first, 6) == byte(second, 6))
+        & (byte(first, 12) == byte(second, 12))
+        & check::same(book_in(first), book_in(second))
 }
 
 fn rank_in(file: &[u8]) -> [u64; 8] {
@@ -33,15 +41,14 @@ fn rank_in(file: &[u8]) -> [u64; 8] {
     rank_of(small_of(day), &cells)
 }
 
-// An answer in numbers, with where the sheet of the chosen file lies: it ends where the file does.
+// An answer in numbers, with where the sheet of the chosen file lies: its entry is the fourth.
 fn told(file: u32, number: u8, at: usize, chosen: &[u8]) -> BetterResult {
-    let length = sheet_size(chosen);
     BetterResult {
         refusal: number as u32,
         offset: at,
         file,
-        start: std::num::wrapping_sub_usize(chosen.len(), length),
-        length,
+        start: byte(chosen, 22) as usize,
+        length: byte(chosen, 24) as usize,
     }
 }
 
@@ -92,7 +99,7 @@ fn judge_pair<'a>(tally: Tally, first: &'a [u8], second: &'a [u8]) -> Tally {
     let want = wanted(first, second);
     let right = same_numbers(answered(first, second), want) & rightly_handed(first, second, want);
     let column = want.file as usize % 3;
-    count(tally, column, want.refusal as usize % 17, right)
+    count(tally, column, want.refusal as usize, right)
 }
 
 // The file after the marker's moves have been played, at the front of a buffer; its length.

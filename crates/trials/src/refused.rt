@@ -17,10 +17,10 @@ use listing::LISTING_MAX;
 use say::Reply;
 use say::front;
 
-// Whether an answer is the reader's; where the reader takes the file, that or a later line's.
+// Whether an answer is the reader's; where the reader takes the file, that or one of the marker's and the buffer's lines.
 fn agrees(first: Reply, r: Reply) -> bool {
     if first.taken {
-        return r.taken | (12 < r.number);
+        return r.taken | ((12 < r.number) & (r.number < 17));
     }
     !r.taken & (r.number == first.number) & (r.at == first.at)
 }
@@ -75,7 +75,7 @@ fn judge_file(tally: Tally, file: &[u8], short: bool) -> Tally {
     count(
         seen,
         0,
-        17,
+        19,
         lists(file) & (!first.taken | written_again(file)),
     )
 }

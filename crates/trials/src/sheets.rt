@@ -99,15 +99,23 @@ fn cells_in(file: &[u8]) -> [u16; 12] {
     cells_of(day.sheet.to_grid())
 }
 
-// Whether the planned sheet is the best one and gets mark 4.
+// Whether a file is that of a book with these cells, a first seat that it names included.
+fn is_file(file: &[u8], s: Small, cells: [u16; 12]) -> bool {
+    let mut written = [0u8; 96];
+    let length = put_small(&mut written, s, true, cells);
+    check::same(file, front(&written, length))
+}
+
+// Whether the planned sheet is the best one and gets mark 4, and all else of its file is the book's.
 fn judge_plan(s: Small, best: [u64; 8]) -> bool {
     let small = s.caps;
     let caps = grid_of(small);
-    let mut out = [255u8; 96];
+    let mut out = [255u8; 104];
     let end = plan_day(Day::new(book_of(s), caps, false, caps), &mut out);
     let file = front(&out, end);
-    let v = judge_mark(s, best, cells_in(file), file);
-    (v.mark == 4) & v.right
+    let cells = cells_in(file);
+    let v = judge_mark(s, best, cells, file);
+    (v.mark == 4) & v.right & is_file(file, s, cells)
 }
 
 // A random small book, planned, and each of its feasible sheets marked.

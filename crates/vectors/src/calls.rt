@@ -27,7 +27,7 @@ pub fn second_in(numbers: &[u8]) -> &[u8] {
     numbers::bytes(numbers, place + 1, length)
 }
 
-// A book in memory: whether it has a sheet, seats, windows, classes, supplies, caps, sheet.
+// A book in memory: whether it has a sheet, seats, windows, classes, supplies, caps, sheet, whether a first seat is named, and that seat.
 pub fn day_in(numbers: &[u8]) -> Day {
     let seats = numbers::wide(numbers, 2);
     let windows = numbers::wide(numbers, 3);
@@ -38,11 +38,14 @@ pub fn day_in(numbers: &[u8]) -> Day {
     numbers::fill(numbers, 4 + seats, &mut supplies);
     let caps = numbers::grid(numbers, 4 + seats + windows, windows);
     let sheet = numbers::grid(numbers, 4 + seats + windows + cells, windows);
+    let after = 4 + seats + windows + 2 * cells;
     let book = Book {
         seats,
         windows,
         classes,
         supplies,
+        has_first: numbers::at(numbers, after) == 1,
+        first: numbers::at(numbers, after + 1),
     };
     Day::new(book, caps, numbers::at(numbers, 1) == 1, sheet)
 }

@@ -1,14 +1,13 @@
-use lib.ListN.{length}
 use Prim.Native.Nat.{_-_, _≤_}
 use borrow.Author.Needs.{needs}
 use Rattle.say.proofs.say_report.Statement.{statement}
 use Rattle.say.proofs.say_report.Tie as tie
 
 abbrev Inv-loop : tie.InvT-loop
-Inv-loop text counts i₀ i = i ≤ length text
+Inv-loop title counts row₀ t4 t5 row = row ≤ 19
 
 abbrev μ-loop : tie.MeasureT-loop
-μ-loop text counts i₀ i = length text - i
+μ-loop title counts row₀ t4 t5 row = 19 - row
 
 pub say-report-spec : {M : Type 1} → statement M
 say-report-spec =
@@ -16,10 +15,15 @@ say-report-spec =
     (tie.spec
     Inv-loop
     μ-loop
-    (λ c. search needs)
+    (λ c κs. search needs)
     (λ c. search needs)
     (λ c κs. search needs)
     (λ c. search needs)
     (λ c. search needs)
     (λ c. search needs)
+    (λ c. search needs)
+    (λ c. search needs)
+    (λ c κs. search needs)
+    (λ c. search needs)
+    (λ c κs. search needs)
     (λ c. search needs))
