@@ -47,11 +47,12 @@ pub struct Book {
 }
 
 // What a day file holds: a book with its caps, and a sheet or its absence. A field cannot be an array of arrays, so the caps are rows too.
-// The flag stands last: between the grids it would leave bytes free, and a sheet would be copied once more on its way into a day.
+// The grids stand first: a book and a flag end with bytes that are free, and what comes behind those is copied once more on its way into a
+// day.
 pub struct Day {
-    pub book: Book,
     pub caps: Sheet,
     pub sheet: Sheet,
+    pub book: Book,
     pub has_sheet: bool,
 }
 
