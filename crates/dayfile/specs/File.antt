@@ -1,5 +1,5 @@
--- Paper 01, "The day file", with paper 02's kind 5: the file of a book, with or without a sheet. A file is a list of parts, and its contents, its offsets and its
--- bytes are computed from that list.
+-- Paper 01, "The day file", with paper 02's kind 5: the file of a book, with or without a sheet. A file is a list of parts, and its
+-- contents, its offsets and its bytes are computed from that list.
 use mathlib.Core.List.{List, [], _∷_, _++_}
 use mathlib.Core.Option.{Option, none, some}
 use Prim.Native.Nat.{ℕ, _+_, _*_, _/_, _%_}

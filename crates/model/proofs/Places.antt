@@ -30,7 +30,8 @@ module _ (first n : ℕ) where
   own i h = ap (λ (t : Bool). cond t (n + i) i) (le-ltb (i + 1) first h)
 
   -- the first seat comes before every other
-  pub first-comes-first : (i : ℕ) → 1 ≤ first → first ≤ n → i < n → (i + 1 ≡ first → ⊥) → placeFrom first n (first - 1) < placeFrom first n i
+  pub first-comes-first : (i : ℕ) → 1 ≤ first → first ≤ n → i < n → (i + 1 ≡ first → ⊥)
+      → placeFrom first n (first - 1) < placeFrom first n i
   first-comes-first i low high l other =
       let here = own (first - 1) (omega arith) in
       elim (decLt (i + 1) first) [
