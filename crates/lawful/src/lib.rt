@@ -12,7 +12,7 @@ mod memory;
 // The shortest buffer that takes every path: 31 moves of 3 bytes.
 pub const MOVES_ROOM: usize = 93;
 
-// Lines 1 to 15, of a file that was read: whether it holds a lawful sheet.
+// Lines 1 to 15 and those of optional parts, of a file that was read: whether it holds a lawful sheet.
 pub fn check_lawful(file: &[u8], reading: Reading) -> Check
     requires { ⌜ Reads (now file) reading ⌝ }
     ensures { λ r. ⌜ refused r ≡ firstOf (sheetLines (now (file .entry))) ⌝ }

@@ -24,7 +24,7 @@ fn too_short(file: &[u8]) -> Found
     }
 }
 
-// Line 2: entries not 3 or 4.
+// Line 2: entries not 3 to 5.
 fn wrong_count(file: &[u8]) -> Found
     ensures { λ r. ⌜ found r ≡ line2 (now (file .entry)) ⌝ }
 {
@@ -60,7 +60,8 @@ fn check_header(file: &[u8]) -> Check
     first_of(1, too_short(file), wrong_count(file), contents_cut(file))
 }
 
-// Lines 4 to 6: kinds not 1, 2, 3, (4) in order, at that kind; start not where the part before ends, at that start; the last body's end.
+// Lines 4 to 6: kinds not 1, 2, 3, then rising and known, at that kind; start not where the part before ends, at that start; the last
+// body's end.
 fn check_entries(file: &[u8]) -> Check
     ensures { λ r. ⌜ refused r ≡ firstOf (drop 3 (contentsLines (now (file .entry)))) ⌝ }
 {
