@@ -65,7 +65,8 @@ enum {
 };
 
 /* A book in memory. Seats and windows count from 0 here; a cap or a credit is at [seat][window]. What credits_read gives has 0 in every
- * place that is not used; credits_write looks at used places only. Later versions add fields at its end alone, so offsets stay. */
+ * place that is not used; credits_write looks at used places only. Later versions add fields at its end alone, so offsets stay: a book
+ * that is made by hand starts from `credits_book book = {0};`, and then what is added says that nothing is there. */
 typedef struct {
     size_t seats;
     size_t windows;

@@ -318,7 +318,6 @@ static void try_first_seats(const char *folder) {
     free(k03.at);
 }
 
-
 /* ---- refusals, which leave every buffer as it was */
 
 static int refused(credits_write_result r, uint32_t number, size_t offset) {
@@ -382,10 +381,14 @@ static void try_short_buffers(const char *folder) {
 
 /* A first seat has to be in the book; where none is named, the number beside is not looked at. */
 static void try_wrong_first(const char *folder) {
-    static const uint16_t wrong[] = {0, 3, 65535};
+    static const uint16_t wrong[] = {0, 3, 257, 65535};
     bytes file = load(folder, "first-k04", ".day"), k04 = load(folder, "k04", ".day"), out = block(CREDITS_FILE_MAX);
     credits_book book = book_in(file);
     CHECK(book.has_first == 1 && book.first == 2);
+    book.has_first = 7; /* any number but 0 */
+    bytes with = written(book);
+    CHECK(with.length == file.length && same(with.at, file, with.length));
+    free(with.at);
     for (size_t i = 0; i < sizeof wrong / sizeof wrong[0]; i++) {
         book.first = wrong[i];
         CHECK(refused(credits_write(book, out.at, out.length), CREDITS_REFUSED_FIRST, file.length - 2) && untouched(out, 0));

@@ -25,6 +25,8 @@ class Book(ctypes.Structure):
 
     @first_seat.setter
     def first_seat(self, seat):
+        if seat is not None and not 0 <= seat <= 65535:  # a C number would wrap
+            raise ValueError(f'a seat of {seat}')
         self.has_first, self.first = (0, 0) if seat is None else (1, seat)
 
     def total(self, seat):

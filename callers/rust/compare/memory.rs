@@ -40,7 +40,7 @@ fn spoil(rng: &mut Rng, book: &mut raw::Book) {
         1 => book.windows = number,
         2 => book.classes[rng.below(SEATS)] = [0, 9, 65535][rng.below(3)],
         3 => book.supplies[rng.below(WINDOWS)] = credits,
-        4 => book.first = [0, book.seats as u16 + 1, 65535][rng.below(3)],
+        4 => book.first = [0, book.seats as u16 + 1, 257, 65535][rng.below(4)],
         _ => book.caps[rng.below(SEATS)][rng.below(WINDOWS)] = credits,
     }
 }

@@ -61,6 +61,7 @@ pub struct BetterResult {
 
 // The sizes that include/credits.h gives these structs on a 64-bit machine.
 const _: () = assert!(size_of::<Book>() == 3216 && size_of::<ReadResult>() == 3232);
+const _: () = assert!(offset_of!(Book, has_first) == 3204 && offset_of!(Book, first) == 3208);
 const _: () = assert!(size_of::<MarkResult>() == 32 && size_of::<WriteResult>() == 24);
 const _: () = assert!(size_of::<BetterResult>() == 40);
 

@@ -84,7 +84,7 @@ gridIn f e = gridAt f (start f e) (seatsIn f) (windowsIn f)
 unfoldable pub firstIn : List ℕ → Option ℕ
 firstIn f = andThen (entryOf f 5) (λ e. some (field f (start f e)))
 
--- kind 1: each seat's class; kind 2: each window's supply; kind 3: caps
+-- kind 1: each seat's class; kind 2: each window's supply; kind 3: caps; kind 5: the first seat
 unfoldable pub bookOf : List ℕ → Book
 bookOf f =
     record {

@@ -40,7 +40,7 @@ fn check_room(room: usize) -> Check
     Check::Sound
 }
 
-// Lines 1 to 16, of a file that was read and a buffer of `room` bytes.
+// The marker's lines, of a file that was read and a buffer of `room` bytes.
 pub fn check_file(file: &[u8], reading: Reading, room: usize) -> Check
     requires { ⌜ Reads (now file) reading ⌝ }
     ensures { λ r. ⌜ refused r ≡ firstOf (markLines (now (file .entry)) room) ⌝ }

@@ -35,6 +35,7 @@ fn wrong_first(file: &[u8]) -> Found
     Found::Nothing
 }
 
+// Line 18, and no more.
 pub fn check_options(file: &[u8]) -> Check
     ensures { λ r. ⌜ refused r ≡ firstOf (optionLines (now (file .entry))) ⌝ }
 {
