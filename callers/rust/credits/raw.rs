@@ -2,6 +2,8 @@
 //!
 //! A slice is what each call asks for: a pointer that is valid for its length, and no other reference into a `&mut` one.
 
+use std::mem::offset_of;
+
 /// A book by value. `has_sheet` is 0 where the file has no sheet, and then the sheet's cells are 0; `has_first` is 0 where it names no
 /// first seat, and then `first` is 0.
 #[derive(Clone, Copy, Debug, PartialEq, Eq)]
