@@ -1,11 +1,10 @@
--- Text as bytes, numbers in decimal, and paper 01's opening times.
+-- Text as bytes, numbers in decimal, and opening times.
 use mathlib.Core.Bool.{Bool, true, false}
 use mathlib.Core.List.{List, [], _∷_, _++_}
-use Prim.Native.Nat.{ℕ, zero, suc, _+_, _/_, _%_}
+use Prim.Native.Nat.{ℕ, zero, suc, _+_, _*_, _/_, _%_}
 use Prim.Native.Char.{code}
 use Prim.Native.String.{String, [] as empty, _∷_ as _then_}
 use lib.Dec.{ltb}
-use lib.ListN.{getD}
 
 -- the bytes of a text of ASCII characters
 abbrev pub ascii : String → List ℕ
@@ -42,11 +41,10 @@ fourDigits n = digits 4 n
 
 -- ---- opening times
 
-abbrev openingTimes : List ℕ
-openingTimes =
-    800 ∷ 825 ∷ 850 ∷ 915 ∷ 940 ∷ 1005 ∷ 1030 ∷ 1055 ∷ 1120 ∷ 1145 ∷ 1210 ∷ 1235
-    ∷ 1300 ∷ 1325 ∷ 1350 ∷ 1415 ∷ 1440 ∷ 1505 ∷ 1530 ∷ 1555 ∷ 1620 ∷ 1645 ∷ 1710 ∷ 1735 ∷ []
+-- minutes after midnight as hours and minutes, read as one number: 505 is 825
+abbrev hoursMinutes : ℕ → ℕ
+hoursMinutes minutes = minutes / 60 * 100 + minutes % 60
 
--- when a window opens, counted from 0: hours and minutes read as one number
+-- when a window opens, counted from 0: paper 02's 480 + 25 × (window − 1) minutes after midnight, where windows count from 1
 unfoldable pub openingTime : ℕ → ℕ
-openingTime j = getD openingTimes j 0
+openingTime j = hoursMinutes (480 + 25 * j)

@@ -4,39 +4,13 @@ ghost use Prim.Native.Nat.{_<_};
 ghost use Rattle.lists.specs.Buffers.{Room, Stored};
 ghost use Rattle.text.specs.Text.{digits, widthOf, decimal, fourDigits, openingTime};
 
-const OPENING_TIMES: [u16; 24] = [
-    800,
-    825,
-    850,
-    915,
-    940,
-    1005,
-    1030,
-    1055,
-    1120,
-    1145,
-    1210,
-    1235,
-    1300,
-    1325,
-    1350,
-    1415,
-    1440,
-    1505,
-    1530,
-    1555,
-    1620,
-    1645,
-    1710,
-    1735,
-];
-
 // When a window opens, counted from 0: hours and minutes read as one number.
 pub fn opening_time(window: usize) -> u16
     requires { ⌜ window < 24 ⌝ }
     ensures { λ r. ⌜ r ≡ openingTime window ⌝ }
 {
-    OPENING_TIMES[window]
+    let minutes = 480 + 25 * window;
+    (minutes / 60 * 100 + minutes % 60) as u16
 }
 
 // Stores bytes from `at` on, and returns the place after them.
