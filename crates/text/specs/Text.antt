@@ -45,6 +45,6 @@ fourDigits n = digits 4 n
 abbrev hoursMinutes : ℕ → ℕ
 hoursMinutes minutes = minutes / 60 * 100 + minutes % 60
 
--- when a window opens, counted from 0: paper 02's 480 + 25 × (window − 1) minutes after midnight, where windows count from 1
+-- when a window opens, counted from 0, as such a number: paper 02's 480 + 25 × (window − 1) minutes, where windows count from 1
 unfoldable pub openingTime : ℕ → ℕ
 openingTime j = hoursMinutes (480 + 25 * j)

@@ -5,7 +5,7 @@ use Prim.Native.Nat.{ℕ}
 use Rattle.fairness.specs.Leximin.{table}
 use Rattle.text.specs.Text.{ascii, digits, fourDigits, openingTime}
 
--- the formula gives each of them, as a listing has it: those of windows 1 to 24, in order
+-- the formula gives each of them, in four digits: those of windows 1 to 24, in order
 pub opening-times :
     table 24 (λ (j : ℕ). fourDigits (openingTime j))
     ≡ ascii "0800" ∷ ascii "0825" ∷ ascii "0850" ∷ ascii "0915" ∷ ascii "0940" ∷ ascii "1005"
