@@ -12,7 +12,7 @@ use Rattle.fairness.proofs.Sums.{sum-le, sum-eq, sum-none, sum-add, sum
 use Rattle.fairness.proofs.Decide.{keep-add, keep-le, keep-most, both?, below?}
 
 -- a sum is kept term by term
-keep-sum : {P : Type 0} (d : Dec P) (n : ℕ) (f : ℕ → ℕ) → keep d (sum n f) ≡ sum n (λ j. keep d (f j))
+pub keep-sum : {P : Type 0} (d : Dec P) (n : ℕ) (f : ℕ → ℕ) → keep d (sum n f) ≡ sum n (λ j. keep d (f j))
 keep-sum (yes p) n f = refl
 keep-sum (no q) n f = sym (sum-none n (λ j. 0) (λ j l. refl))
 

@@ -30,8 +30,19 @@ pub mod Certificate
 pub mod Alike
 -- what others cite
 pub mod Theorems
+-- the standard sheet
+pub mod StandardTotals
+pub mod StandardCut
+pub mod StandardOrder
+pub mod StandardLists
+pub mod StandardCycle
+pub mod StandardSearch
+pub mod StandardSets
+pub mod StandardAlike
+pub mod Standard
 -- that the definitions are met
 pub mod Examples
+pub mod StandardExamples
 -- for the functions of src/
 pub mod Weights
 pub mod Products

@@ -1,18 +1,19 @@
 -- A measure that each wanted exchange lowers: the potential first, and at a tie the sum of position × height.
-use mathlib.Core.Path.{_≡_, refl, ap}
+use mathlib.Core.Path.{_≡_, refl, ap, ap₂}
 use mathlib.Core.Logic.{inl, inr}
-use Prim.Native.Nat.{ℕ, suc, _+_, _*_, _≤_, _<_}
+use Prim.Native.Nat.{ℕ, suc, _+_, _*_, _-_, _^_, _≤_, _<_}
 use native.Mathlib.Nat.{mul-suc, suc-mul, mul-le-mul-left, mul-le-mul-right}
 use native.Mathlib.Decide.{ℕ-discrete}
 use native.Mathlib.Omega.{arith}
 use Rattle.fairness.specs.Sums.{sum, keep}
-use Rattle.fairness.specs.Instance.{Instance, Proper, Sheet, Feasible, height}
+use Rattle.fairness.specs.Instance.{Instance, Proper, Sheet, Feasible, total, height}
 use Rattle.fairness.specs.Exchange.{one}
 use Rattle.fairness.proofs.Sums.{sum-le, sum-eq, sum-add, sum-term}
 use Rattle.fairness.proofs.Decide.{sum-at}
 use Rattle.fairness.proofs.Levels.{Prefers, Precedes, Tie, u}
 use Rattle.fairness.proofs.Wanted.{Wanted}
-use Rattle.fairness.proofs.Profiles.{pot}
+use Rattle.fairness.proofs.Potential.{potential}
+use Rattle.fairness.proofs.Profiles.{B, pot}
 use Rattle.fairness.proofs.Progress.{Exchanged, exchange-lowers, exchange-keeps}
 
 module _ (I : Instance) where
@@ -78,6 +79,14 @@ module _ (I : Instance) where
 
   pub measure : Sheet → ℕ
   measure S = pot I N S * K + weighed (height I S)
+
+  -- it goes by the totals alone
+  pub measure-same : (S T : Sheet) → ((i : ℕ) → i < I .seats → total I S i ≡ total I T i) → measure S ≡ measure T
+  unfolding measure weighed potential
+  measure-same S T e =
+      ap₂ (λ (x y : ℕ). x * K + y)
+      (sum-eq (I .seats) _ _ (λ i l. ap (λ (x : ℕ). B I ^ (N - (I .base i + x) * u I i)) (e i l)))
+      (sum-eq (I .seats) _ _ (λ i l. ap (λ (x : ℕ). I .position i * (I .base i + x)) (e i l)))
 
 module _ (I : Instance) (proper : Proper I) (S S′ : Sheet) (g l : ℕ) (w : Wanted I S (Precedes I) g l)
     (totals : Exchanged I S S′ g l) (f : Feasible I S) (f′ : Feasible I S′)

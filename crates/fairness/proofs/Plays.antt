@@ -23,7 +23,7 @@ hit-row m i j a l = go (ℕ-discrete a i)
 pub hit-column : (n i j b : ℕ) → i < n → sum n (λ a. hit i j a b) ≡ one j b
 hit-column n i j b l = sum-at n i (one j b) l
 
-off-seat : (i j a b : ℕ) → (a ≡ i → ⊥) → hit i j a b ≡ 0
+pub off-seat : (i j a b : ℕ) → (a ≡ i → ⊥) → hit i j a b ≡ 0
 off-seat i j a b q = keep-no (ℕ-discrete a i) (one j b) q
 
 off-window : (i j a b : ℕ) → (b ≡ j → ⊥) → hit i j a b ≡ 0

@@ -3,7 +3,7 @@
 use mathlib.Core.Path.{_≡_, _∙_}
 use mathlib.Core.Bool.{Bool, true, Bool-discrete}
 use mathlib.Core.Logic.{_⊎_, inl, inr}
-use Prim.Native.Nat.{ℕ, zero, suc, min, _-_, _<_}
+use Prim.Native.Nat.{ℕ, zero, suc, min, _-_, _≤_, _<_}
 use native.Mathlib.Nat.{le-refl}
 use native.Mathlib.Omega.{arith}
 use lib.ListN.{length}
@@ -57,33 +57,46 @@ module _ (I : Instance) (S : Sheet) (test : ℕ → ℕ → Bool) (apart : (g : 
 
 -- ---- from any feasible sheet that wastes nothing
 
+-- a settled sheet of no greater measure
+pub record SettledFrom (I : Instance) (S : Sheet) : Type 0 where
+  pub sheet : Sheet
+  pub settled : Settled I sheet
+  pub no-greater : measure I sheet ≤ measure I S
+
 module _ (I : Instance) (proper : Proper I) where
   abbrev Settles : ℕ → Type 0
-  Settles n = (S : Sheet) → measure I S < n → Feasible I S → (Wasteful I S → ⊥) → (T : Sheet) × Settled I T
+  Settles n = (S : Sheet) → measure I S < n → Feasible I S → (Wasteful I S → ⊥) → SettledFrom I S
 
   -- play an exchange that one of the tests wants, and go on
   play-on : (n : ℕ) → Settles n → (S : Sheet) → measure I S < suc n → Feasible I S → (Wasteful I S → ⊥) →
       (test : ℕ → ℕ → Bool) → ((g l : ℕ) → test g l ≡ true → (improvesAt I S g l ≡ true) ⊎ (tiesAt I S g l ≡ true)) →
-      Exchange I S test → (T : Sheet) × Settled I T
+      Exchange I S test → SettledFrom I S
   play-on n ih S b f full test wants e =
       let plays = path-plays I S (e .receiver) (e .donor) (e .moves) (e .path) in
       let f′ = plays-feasible I S (e .moves) plays f in
       let w = exchange-wanted I S (e .receiver) (e .donor) (e .moves) (e .path) (wants (e .receiver) (e .donor) (e .wanted)) in
       let totals = plays-total I S (e .receiver) (e .donor) (e .moves) plays (e .path .linked) in
-      ih (playAll S (e .moves))
-      (omega (arith, measure-less I proper S (playAll S (e .moves)) (e .receiver) (e .donor) w (λ a l. totals a) f f′))
-      f′
-      (λ x. full (plays-wasteful I S (e .moves) plays x))
+      let less = measure-less I proper S (playAll S (e .moves)) (e .receiver) (e .donor) w (λ a l. totals a) f f′ in
+      let t = ih (playAll S (e .moves)) (omega arith) f′ (λ x. full (plays-wasteful I S (e .moves) plays x)) in
+      record { sheet = t .sheet; settled = t .settled; no-greater = omega (arith, t .no-greater) }
 
   settle : (n : ℕ) → Settles n
   settle zero S b f full = absurd (omega arith)
   settle (suc n) S b f full =
       go (settle n) (exchange? I S (improvesAt I S) (improves-apart I S)) (exchange? I S (tiesAt I S) (ties-apart I S))
     where
-      go : Settles n → Dec (Improvable I S) → Dec (Tied I S) → (T : Sheet) × Settled I T
+      go : Settles n → Dec (Improvable I S) → Dec (Tied I S) → SettledFrom I S
       go ih (yes e) d = play-on n ih S b f full (improvesAt I S) (λ g l t. inl t) e
       go ih (no p) (yes e) = play-on n ih S b f full (tiesAt I S) (λ g l t. inr t) e
-      go ih (no p) (no q) = (S, record { feasible = f; full = full; fair = p; ordered = q })
+      go ih (no p) (no q) =
+          record {
+            sheet = S;
+            settled = record { feasible = f; full = full; fair = p; ordered = q };
+            no-greater = le-refl (measure I S);
+          }
+
+  pub settled-from : (S : Sheet) → Feasible I S → (Wasteful I S → ⊥) → SettledFrom I S
+  settled-from S = settle (suc (measure I S)) S (le-refl _)
 
 -- ---- a first sheet
 
@@ -121,4 +134,4 @@ module _ (I : Instance) where
       )
 
   pub settled-exists : Proper I → (S : Sheet) × Settled I S
-  settled-exists proper = settle I proper (suc (measure I first)) first (le-refl _) first-feasible first-full
+  settled-exists proper = let t = settled-from I proper first first-feasible first-full in (t .sheet, t .settled)

@@ -6,4 +6,6 @@ pub mod Leximin
 pub mod Exchange
 pub mod Layers
 pub mod Cuts
+pub mod Standard
+pub mod Raising
 pub mod Numbers

@@ -5,7 +5,9 @@ use native.Mathlib.Nat.{le-trans}
 use native.Mathlib.Omega.{arith}
 use Rattle.fairness.specs.Instance.{Instance, Proper, Feasible}
 use Rattle.fairness.specs.Exchange.{Settled}
+use Rattle.fairness.specs.Standard.{Standard}
 use Rattle.fairness.proofs.Alike.{Alike, alike-back, alike-feasible, alike-settled}
+use Rattle.fairness.proofs.Standard.{alike-standard}
 use Rattle.model.specs.Book.{Book, Grid, cell, instanceOf}
 use Rattle.dayfile.specs.Bounds.{Fit}
 use Rattle.instance.specs.declared.Terms.{Terms}
@@ -70,3 +72,6 @@ module _ (t : Terms) (caps : Grid) where
       -- and from them
       pub shown-settled : Settled (instanceIn t caps) (cell grid) → Settled I S
       shown-settled = alike-settled (instanceIn t caps) I (cell grid) S shown-alike
+
+      pub shown-standard : Standard (instanceIn t caps) (cell grid) → Standard I S
+      shown-standard = alike-standard (instanceIn t caps) I (cell grid) S shown-alike
