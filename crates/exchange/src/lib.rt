@@ -19,7 +19,7 @@ use sheet::Caps;
 use sheet::row_total;
 
 // The windows in which a row has less than another.
-fn below(a: &[u16; 24], b: &[u16; 24], windows: usize) -> u32
+pub fn below(a: &[u16; 24], b: &[u16; 24], windows: usize) -> u32
     requires { ⌜ windows ≤ 24 ⌝ }
     ensures { λ r. ⌜ Collects windows (λ w. getD (now (a .entry)) w 0 < getD (now (b .entry)) w 0) r ⌝ }
 {

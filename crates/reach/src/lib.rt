@@ -32,7 +32,7 @@ pub struct Wave {
 }
 
 // The union of the sets at the members of a set.
-fn union_over(set: u32, sets: &[u32]) -> u32
+pub fn union_over(set: u32, sets: &[u32]) -> u32
     requires { ⌜ ((i : ℕ) → In i set → i < length (now sets)) ⌝ }
     ensures { λ r. ⌜ UnionOver set (now (sets .entry)) r ⌝ }
 {
