@@ -2,3 +2,4 @@
 pub mod Columns
 pub mod Filling
 pub mod Feasible
+pub mod Shifts

@@ -39,6 +39,10 @@ pub record Filled (n m : ℕ) (caps : Grid) (supplies : List ℕ) (r : Grid) : T
   pub shape : Shaped 32 24 r
   pub full : (j : ℕ) → j < m → FullAt n j caps (getD supplies j 0) r
 
+-- whatever the supplies, what was filled stays filled
+abbrev pub Keeps : ℕ → ℕ → Grid → Grid → Grid → Type 0
+Keeps n m caps g r = (supplies : List ℕ) → Filled n m caps supplies g → Filled n m caps supplies r
+
 -- ---- one move
 
 -- a move lets a credits through: the giver has them, the taker has room for them, and its cell holds them

@@ -1,11 +1,11 @@
-// Free credits handed out: window by window, seat by seat, up to the caps. How many a cell has room for, and a move lets through.
+// Free credits handed out: window by window, seat by seat, up to the caps. Credits moved: as many as a step lets through.
 ghost use mathlib.Core.Path.{_≡_};
 ghost use Prim.Native.Nat.{min, _+_, _-_, _≤_, _<_};
 ghost use Rattle.fairness.specs.Sums.{sum};
 ghost use Rattle.fairness.specs.Instance.{Feasible};
 ghost use Rattle.model.specs.Book.{cell, Shaped};
 ghost use Rattle.instance.specs.Terms.{instanceIn};
-ghost use Rattle.fill.specs.Fills.{FeasibleAt, Handed, Filled, Passes};
+ghost use Rattle.fill.specs.Fills.{FeasibleAt, Handed, Filled, Keeps, Passes};
 use instance::Terms;
 use sheet::Caps;
 use sheet::Move;
@@ -32,6 +32,35 @@ pub fn passes(grid: &Caps, caps: &Caps, step: Move) -> u16
     let g = step.giver;
     let t = step.taker;
     lesser(grid[g][w], room(grid[t][w], caps[t][w]))
+}
+
+// How many seats and windows a grid has in use.
+pub struct Size {
+    pub seats: usize,
+    pub windows: usize,
+}
+
+// Moves the credits asked for, or as many as the step lets through. A step outside the book does nothing. So whoever asks, what is filled
+// stays filled.
+pub fn shift(grid: &mut Caps, caps: &Caps, size: Size, step: Move, amount: u16)
+    requires { ⌜ (size .seats ≤ 32) × (size .windows ≤ 24) ⌝ }
+    ensures { λ _. ⌜ Keeps (size .seats) (size .windows) (now (caps .entry)) (now (grid .entry)) (now (grid .exit)) ⌝ }
+{
+    let w = step.window;
+    let g = step.giver;
+    let t = step.taker;
+    if size.windows <= w {
+        return;
+    }
+    if size.seats <= g {
+        return;
+    }
+    if size.seats <= t {
+        return;
+    }
+    let a = lesser(amount, passes(grid, caps, step));
+    grid[g][w] -= a;
+    grid[t][w] += a;
 }
 
 // What is left of a window's supply.

@@ -7,7 +7,7 @@ mod residual;
 mod shortest;
 
 ghost use Prim.Native.Nat.{_≤_, _<_};
-ghost use Rattle.start.specs.Keeps.{Keeps};
+ghost use Rattle.fill.specs.Fills.{Keeps};
 use instance::Terms;
 use masks::full;
 use masks::minus;

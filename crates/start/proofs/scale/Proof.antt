@@ -1,6 +1,6 @@
 -- `start::scale` meets its contract: each turn keeps the grid filled.
 use Prim.Native.Nat.{_-_, _≤_}
-use Rattle.start.specs.Keeps.{Keeps}
+use Rattle.fill.specs.Fills.{Keeps}
 use borrow.Author.Needs.{needs}
 use Rattle.start.proofs.scale.Statement.{statement}
 use Rattle.start.proofs.scale.Tie as tie

@@ -1,9 +1,9 @@
--- `augment::shift` meets its contract: what a step lets through leaves a filled grid filled.
+-- `fill::shift` meets its contract: what a step lets through leaves a filled grid filled.
 use native.Mathlib.Omega.{arith}
-use Rattle.start.proofs.Shifts.{given-le, shifted}
+use Rattle.fill.proofs.Shifts.{given-le, shifted}
 use borrow.Author.Needs.{needs}
-use Rattle.start.proofs.augment.shift.Statement.{statement}
-use Rattle.start.proofs.augment.shift.Tie as tie
+use Rattle.fill.proofs.shift.Statement.{statement}
+use Rattle.fill.proofs.shift.Tie as tie
 
 add-grid : tie.Need-add-grid
 add-grid c =
@@ -20,7 +20,7 @@ returns-4 c supplies f =
     let a = b .args in
     let s = a .step in
     let p = l .before .passes .ensures in
-    shifted (a .phase .seats) (a .phase .windows) (a .caps .now) supplies (a .grid .now) f (b .pre .0) (b .pre .1)
+    shifted (a .size .seats) (a .size .windows) (a .caps .now) supplies (a .grid .now) f (b .pre .0) (b .pre .1)
     (s .window) (s .giver) (s .taker) (l .lesser .result) (omega arith) (omega arith) (omega arith)
     (omega (arith, l .lesser .ensures, p .has)) (omega (arith, l .lesser .ensures, p .free))
 
