@@ -8,15 +8,15 @@ use native.Mathlib.Omega.{arith}
 use lib.ListN.{length, getD, set, replicate}
 use lib.Seq.{getD-set-same, getD-set-other}
 use Rattle.lists.proofs.Arrays.{zeros-at}
-use Rattle.fairness.specs.Instance.{Instance}
-use Rattle.fairness.specs.Exchange.{Possible}
+use Rattle.fairness.specs.Instance.{Instance, Sheet}
+use Rattle.fairness.specs.Exchange.{Move, Possible}
 use Rattle.model.specs.Book.{Grid, cell}
 use Rattle.masks.specs.Sets.{In, Inserted}
 use Rattle.masks.proofs.Laws.{bit-zero}
 use Rattle.instance.specs.declared.Terms.{Terms}
-use Rattle.instance.specs.Terms.{Told, Shows}
+use Rattle.instance.specs.Terms.{instanceIn, Told, Shows}
 use Rattle.reach.specs.declared.Graph.{Graph}
-use Rattle.reach.specs.Graphs.{setAt, Rows, Leads}
+use Rattle.reach.specs.Graphs.{setAt, Rows}
 use Rattle.paths.specs.Steps.{Drawn}
 
 -- ---- a further holder
@@ -73,68 +73,94 @@ module _ (holders cells : List ℕ) (seat : ℕ) where
             | no d ↦ rw (getD-set-other all n w v 0 d) (elsewhere w i d)
           ]
 
--- ---- the graph
+-- ---- the graph of a sheet, over functions on ℕ
 
 -- a seat is below its cap in a window
-abbrev pub HasRoom : Grid → Grid → ℕ → ℕ → ℕ → Type 0
-HasRoom grid caps windows k w = (w < windows) × (cell grid k w < cell caps k w)
+abbrev pub HasRoom : Sheet → Sheet → ℕ → ℕ → ℕ → Type 0
+HasRoom S cap windows k w = (w < windows) × (S k w < cap k w)
 
 -- a seat below n has a credit in a window
-abbrev HasCredit : Grid → ℕ → ℕ → ℕ → ℕ → Type 0
-HasCredit grid windows n w k = (k < n) × ((w < windows) × (0 < cell grid k w))
+abbrev HasCredit : Sheet → ℕ → ℕ → ℕ → ℕ → Type 0
+HasCredit S windows n w k = (k < n) × ((w < windows) × (0 < S k w))
 
 -- the sets are the holders of each window among the seats below n
-abbrev pub HoldersOf : Grid → ℕ → ℕ → List ℕ → Type 0
-HoldersOf grid windows n sets = (w k : ℕ) → In k (setAt sets w) ↔ HasCredit grid windows n w k
+abbrev pub HoldersOf : Sheet → ℕ → ℕ → List ℕ → Type 0
+HoldersOf S windows n sets = (w k : ℕ) → In k (setAt sets w) ↔ HasCredit S windows n w k
 
-pub held-first : (grid : Grid) (windows m : ℕ) → HoldersOf grid windows 0 (replicate m 0)
-held-first grid windows m w k =
-    (λ p. absurd (omega (arith, rw (zeros-at m w) at p, bit-zero k)), λ h. absurd (omega (arith, h .0)))
+-- no sets yet, where no seat below n has a credit
+pub held-first : (S : Sheet) (windows n m : ℕ) → ((k w : ℕ) → k < n → S k w ≡ 0) → HoldersOf S windows n (replicate m 0)
+held-first S windows n m none w k = (
+  λ p. absurd (omega (arith, rw (zeros-at m w) at p, bit-zero k)),
+  λ h. absurd (omega (arith, h .1 .1, none k w (h .0))),
+)
 
-pub held-next : (grid : Grid) (windows n : ℕ) (sets sets′ cells : List ℕ) → HoldersOf grid windows n sets
-    → ((w : ℕ) → getD cells w 0 ≡ cell grid n w) → Added sets cells n windows sets′ → HoldersOf grid windows (n + 1) sets′
-held-next grid windows n sets sets′ cells h same a w k = (to, from)
+pub held-next : (S : Sheet) (windows n : ℕ) (sets sets′ cells : List ℕ) → HoldersOf S windows n sets
+    → ((w : ℕ) → getD cells w 0 ≡ S n w) → Added sets cells n windows sets′ → HoldersOf S windows (n + 1) sets′
+held-next S windows n sets sets′ cells h same a w k = (to, from)
   where
-    to : In k (setAt sets′ w) → HasCredit grid windows (n + 1) w k
+    to : In k (setAt sets′ w) → HasCredit S windows (n + 1) w k
     to p =
         ⊎-elim
         (λ q. let b = h w k .0 q in (omega (arith, b .0), b .1))
         (λ b. (omega (arith, b .0), (b .1 .0, rw (b .0) (omega (arith, b .1 .1, same w)))))
         (a w k .0 p)
 
-    from : HasCredit grid windows (n + 1) w k → In k (setAt sets′ w)
+    from : HasCredit S windows (n + 1) w k → In k (setAt sets′ w)
     from b =
         elim (ℕ-discrete k n) [
           | yes e ↦ a w k .1 (inr (e, (b .1 .0, omega (arith, rw e at (b .1 .1), same w))))
           | no d ↦ a w k .1 (inl (h w k .1 (omega (arith, b .0), b .1)))
         ]
 
-module _ (grid caps : Grid) (t : Terms) (graph : Graph)
-    (rooms : Rows (t .seats) (HasRoom grid caps (t .windows)) (graph .rooms))
-    (held : HoldersOf grid (t .windows) (t .seats) (graph .holders))
-  where
-    module _ (I : Instance) (S : ℕ → ℕ → ℕ) (told : Told I t caps) (shows : Shows t S grid) where
-      to : (k l w : ℕ) → Leads (setAt (graph .rooms) k) (graph .holders) l w → Possible I S (record { window = w; giver = l; taker = k })
-      to k l w p =
-          let taker = rooms k w .0 (p .member) in
-          let giver = held w l .0 (p .leads) in
-          record {
-            in-window = omega (arith, taker .1 .0, told .windows-are);
-            in-giver = omega (arith, giver .0, told .seats-are);
-            in-taker = omega (arith, taker .0, told .seats-are);
-            has = omega (arith, giver .1 .1, shows l w (giver .0) (giver .1 .0));
-            room = omega (arith, taker .1 .1, shows k w (taker .0) (taker .1 .0), told .caps-are k w (taker .0) (taker .1 .0));
-          }
+-- its sets show the moves that are possible
+pub drawn : (I : Instance) (S : Sheet) (graph : Graph) → Rows (I .seats) (HasRoom S (I .cap) (I .windows)) (graph .rooms)
+    → HoldersOf S (I .windows) (I .seats) (graph .holders) → Drawn I S graph
+drawn I S graph rooms held k l w = (
+  λ p.
+      let taker = rooms k w .0 (p .member) in
+      let giver = held w l .0 (p .leads) in
+      record { in-window = taker .1 .0; in-giver = giver .0; in-taker = taker .0; has = giver .1 .1; room = taker .1 .1 },
+  λ p.
+      record {
+        member = rooms k w .1 (p .in-taker, (p .in-window, p .room));
+        leads = held w l .1 (p .in-giver, (p .in-window, p .has));
+      },
+)
 
-      from : (k l w : ℕ) → Possible I S (record { window = w; giver = l; taker = k }) → Leads (setAt (graph .rooms) k) (graph .holders) l w
-      from k l w p =
-          let in-window : w < t .windows = omega (arith, p .in-window, told .windows-are) in
-          let in-giver : l < t .seats = omega (arith, p .in-giver, told .seats-are) in
-          let in-taker : k < t .seats = omega (arith, p .in-taker, told .seats-are) in
-          let cells = shows k w in-taker in-window in
-          let room : cell grid k w < cell caps k w = omega (arith, p .room, cells, told .caps-are k w in-taker in-window) in
-          let has : 0 < cell grid l w = omega (arith, p .has, shows l w in-giver in-window) in
-          record { member = rooms k w .1 (in-taker, (in-window, room)); leads = held w l .1 (in-giver, (in-window, has)) }
+-- ---- and of all that the memory tells and shows
 
-      pub drawn : Drawn I S graph
-      drawn k l w = (to k l w, from k l w)
+module _ (t : Terms) (caps grid : Grid) (I : Instance) (S : Sheet) (told : Told I t caps) (shows : Shows t S grid) where
+  to : (m : Move) → Possible (instanceIn t caps) (cell grid) m → Possible I S m
+  to m p =
+      let g = m .giver in
+      let k = m .taker in
+      let w = m .window in
+      let caps-are = told .caps-are k w (p .in-taker) (p .in-window) in
+      record {
+        in-window = omega (arith, p .in-window, told .windows-are);
+        in-giver = omega (arith, p .in-giver, told .seats-are);
+        in-taker = omega (arith, p .in-taker, told .seats-are);
+        has = omega (arith, p .has, shows g w (p .in-giver) (p .in-window));
+        room = omega (arith, p .room, shows k w (p .in-taker) (p .in-window), caps-are);
+      }
+
+  from : (m : Move) → Possible I S m → Possible (instanceIn t caps) (cell grid) m
+  from m p =
+      let g = m .giver in
+      let k = m .taker in
+      let w = m .window in
+      let in-window : w < t .windows = omega (arith, p .in-window, told .windows-are) in
+      let in-giver : g < t .seats = omega (arith, p .in-giver, told .seats-are) in
+      let in-taker : k < t .seats = omega (arith, p .in-taker, told .seats-are) in
+      record {
+        in-window = in-window;
+        in-giver = in-giver;
+        in-taker = in-taker;
+        has = omega (arith, p .has, shows g w in-giver in-window);
+        room = omega (arith, p .room, shows k w in-taker in-window, told .caps-are k w in-taker in-window);
+      }
+
+  pub drawn-told : (graph : Graph) → Drawn (instanceIn t caps) (cell grid) graph → Drawn I S graph
+  drawn-told graph d k l w =
+      let m : Move = record { window = w; giver = l; taker = k } in
+      (λ p. to m (d k l w .0 p), λ p. d k l w .1 (from m p))

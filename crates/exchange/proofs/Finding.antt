@@ -40,7 +40,7 @@ none-writable : (x : ExchangePath) → x .count ≡ 0 → Writable x
 none-writable x e = record { few = omega arith; counted = rw e refl; small = rw e tt }
 
 module _ (I : Instance) (S : Sheet) (graph : Graph) (d : Drawn I S graph) (few-seats : I .seats ≤ 32) (few-windows : I .windows ≤ 24) where
-  writable : (kind : Kind) (g l : ℕ) (x : ExchangePath) → g < I .seats → Nearest kind graph g l x → Writable x
+  pub writable : (kind : Kind) (g l : ℕ) (x : ExchangePath) → g < I .seats → Nearest kind graph g l x → Writable x
   writable kind g l x seat n =
       let path = n .path I S d in
       let short = path-length I S g l (movesOf x) seat path in

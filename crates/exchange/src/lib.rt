@@ -33,7 +33,7 @@ pub fn below(a: &[u16; 24], b: &[u16; 24], windows: usize) -> u32
 }
 
 // The holders of each window with a further seat, whose cells are given.
-fn with_holder(holders: [u32; 24], cells: &[u16; 24], windows: usize, seat: usize) -> [u32; 24]
+pub fn with_holder(holders: [u32; 24], cells: &[u16; 24], windows: usize, seat: usize) -> [u32; 24]
     requires { ⌜ (windows ≤ 24) × (seat < 32) ⌝ }
     ensures { λ r. ⌜ ((w i : ℕ) → In i (setAt r w) ↔
         (In i (setAt holders w) ⊎ ((i ≡ seat) × ((w < windows) × (0 < getD (now (cells .entry)) w 0))))) ⌝ }

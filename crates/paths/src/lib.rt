@@ -49,7 +49,7 @@ fn column(sets: &[u32], l: usize) -> u32
 }
 
 // A member of a set whose own set meets another.
-fn first_meeting(set: u32, sets: &[u32], other: u32) -> usize
+pub fn first_meeting(set: u32, sets: &[u32], other: u32) -> usize
     requires { ⌜ length (now sets) ≤ 32 ⌝ }
     requires { ⌜ ((i : ℕ) × Meets set (now sets) other i) ⌝ }
     ensures { λ r. ⌜ Meets set (now (sets .entry)) other r ⌝ }

@@ -1,15 +1,16 @@
 -- Sets and rows that are collected one number after the other. Assumes nothing.
-use mathlib.Core.Path.{_≡_, sym, _∙_}
+use mathlib.Core.Path.{sym, _∙_}
 use mathlib.Core.Logic.{_↔_}
 use mathlib.Core.List.{List}
-use Prim.Native.Nat.{ℕ, _+_, _≤_, _<_}
-use native.Mathlib.Decide.{ℕ-discrete, decLt}
+use Prim.Native.Nat.{ℕ, _+_, _<_}
+use native.Mathlib.Decide.{ℕ-discrete}
 use native.Mathlib.Omega.{arith}
-use lib.ListN.{replicate}
-use Rattle.lists.proofs.Arrays.{Filled, filled-at, zeros-at}
+use lib.ListN.{length, set, replicate}
+use lib.Seq.{getD-set-same, getD-set-other}
+use Rattle.lists.proofs.Arrays.{zeros-at}
 use Rattle.masks.specs.Sets.{In, Inserted}
 use Rattle.masks.proofs.Laws.{bit-zero}
-use Rattle.reach.specs.Graphs.{setAt, Collects, Rows}
+use Rattle.reach.specs.Graphs.{Collects, Rows}
 
 -- ---- a set
 
@@ -39,13 +40,20 @@ module _ (P : ℕ → Type 0) (n m : ℕ) (c : Collects n P m) where
 
 -- ---- rows
 
--- rows that a loop has filled in
-pub rows-end : {P : ℕ → ℕ → Type 0} {n m i : ℕ} {sets : List ℕ}
-    → Filled (λ a v. (k : ℕ) → In k v ↔ P a k) 0 n m (replicate n 0) i sets → m ≤ i → Rows m P sets
-rows-end {P} {n} {m} {i} {sets} f l a k =
-    elim (decLt a m) [
-      | yes h ↦ let row = filled-at f l a h k in (λ p. (h, row .0 p), λ p. row .1 (p .1))
-      | no h ↦
-          let empty : setAt sets a ≡ 0 = f .rest a (omega (arith, f .within)) ∙ zeros-at n a in
-          (λ p. absurd (omega (arith, rw empty at p, bit-zero k)), λ p. absurd (h (p .0)))
+-- no sets yet, where no number below n is in the relation
+pub rows-none : (P : ℕ → ℕ → Type 0) (n m : ℕ) → ((i k : ℕ) → i < n → P i k → ⊥) → Rows n P (replicate m 0)
+rows-none P n m none i k =
+    (λ p. absurd (omega (arith, rw (zeros-at m i) at p, bit-zero k)), λ h. absurd (none i k (h .0) (h .1)))
+
+-- one row more
+pub rows-next : (P : ℕ → ℕ → Type 0) (n : ℕ) (sets : List ℕ) → Rows n P sets → n < length sets
+    → (row : ℕ) → ((k : ℕ) → In k row ↔ P n k) → Rows (n + 1) P (set sets n row)
+rows-next P n sets rows long row r i k =
+    elim (ℕ-discrete i n) [
+      | yes e ↦ rw e (rw (getD-set-same sets n row 0 long) (λ p. (omega arith, r k .0 p), λ h. r k .1 (h .1)))
+      | no d ↦
+          rw (getD-set-other sets n i row 0 d) (
+            λ p. let h = rows i k .0 p in (omega (arith, h .0), h .1),
+            λ h. rows i k .1 (omega (arith, h .0), h .1),
+          )
     ]

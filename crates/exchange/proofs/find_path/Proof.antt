@@ -2,18 +2,18 @@
 use borrow.Author.Needs.{needs}
 use mathlib.Core.Path.{_≡_, refl}
 use mathlib.Core.List.{[]}
-use mathlib.Core.Logic.{_↔_}
-use Prim.Native.Nat.{ℕ, _-_}
+use Prim.Native.Nat.{_-_}
 use native.Mathlib.Omega.{arith}
-use lib.ListN.{length, getD}
-use Rattle.lists.proofs.Arrays.{Filled, filled-first, filled-next}
-use Rattle.masks.specs.Sets.{In}
+use lib.ListN.{length, getD, length-set}
+use Rattle.lists.proofs.Arrays.{filled-first, filled-next}
+use Rattle.model.specs.Book.{cell}
 use Rattle.reach.specs.declared.Graph.{Graph}
 use Rattle.reach.specs.Graphs.{Rows}
-use Rattle.reach.proofs.Collect.{rows-end}
+use Rattle.reach.proofs.Collect.{rows-none, rows-next}
+use Rattle.instance.specs.Terms.{instanceIn}
 use Rattle.instance.proofs.Told.{told-in, shows-itself}
 use Rattle.exchange.proofs.Heights.{Known, scored, bounded}
-use Rattle.exchange.proofs.Drawing.{HasRoom, HoldersOf, held-first, held-next, drawn}
+use Rattle.exchange.proofs.Drawing.{HasRoom, HoldersOf, held-first, held-next, drawn, drawn-told}
 use Rattle.exchange.proofs.Finding.{finds-right}
 use Rattle.exchange.proofs.find_path.Statement.{statement}
 use Rattle.exchange.proofs.find_path.Tie as tie
@@ -21,16 +21,21 @@ use Rattle.exchange.proofs.find_path.Tie as tie
 abbrev Inv-loop : tie.InvT-loop
 Inv-loop grid caps seats windows bases weights positions heights₀ rooms₀ holders₀ seat₀ heights rooms holders seat =
     Known grid seats windows bases heights₀ seat heights
-    × (Filled (λ k set. (w : ℕ) → In w set ↔ HasRoom grid caps windows k w) 0 32 seats rooms₀ seat rooms
-    × ((length holders ≡ 24) × HoldersOf grid windows seat holders))
+    × (((length rooms ≡ 32) × Rows seat (HasRoom (cell grid) (cell caps) windows) rooms)
+    × ((length holders ≡ 24) × HoldersOf (cell grid) windows seat holders))
 
 abbrev μ-loop : tie.MeasureT-loop
 μ-loop grid caps seats windows bases weights positions heights₀ rooms₀ holders₀ seat₀ heights rooms holders seat = seats - seat
 
 loop-holds : tie.Need-loop-holds Inv-loop μ-loop
 loop-holds c =
-    let a = c .before .before .before .args in
-    (filled-first refl (search needs), (filled-first refl (search needs), (refl, held-first (a .grid .now) _ 24)))
+    let a = c .before .before .before .args in (
+      filled-first refl (search needs),
+      (
+        (refl, rows-none _ 0 32 (λ i k l p. omega arith)),
+        (refl, held-first (cell (a .grid .now)) _ 0 24 (λ k w l. absurd (omega arith))),
+      ),
+    )
 
 add-heights : tie.Need-add-heights Inv-loop μ-loop
 add-heights c =
@@ -45,11 +50,13 @@ loop-again c =
     let total = c .before .before .before .before .before in
     let at = total .before .before .before .loop in
     let a = total .before .before .before .before .before .before .before .args in
-    let held = held-next (a .grid .now) (a .t .windows) (at .seat) (at .holders) (c .with-holder .result) in
+    let held = held-next (cell (a .grid .now)) (a .t .windows) (at .seat) (at .holders) (c .with-holder .result) in
+    let long = at .inv .1 .0 .0 in
+    let rooms = rows-next _ (at .seat) (at .rooms) (at .inv .1 .0 .1) (omega (arith, long)) in
     let cells = getD (a .grid .now) (at .seat) [] in (
       filled-next (at .inv .0) (search needs) (omega (arith, total .row-total .ensures .0)),
       (
-        filled-next (at .inv .1 .0) (search needs) (c .before .before .below .ensures),
+        (simp length-set long, rooms _ (c .before .before .below .ensures)),
         (
           search needs,
           held cells (at .inv .1 .1 .1) (λ w. refl) (c .with-holder .ensures),
@@ -76,11 +83,11 @@ returns c =
     let a = start .args in
     let scores = scored (a .grid .now) (a .caps .now) (a .t) (at .seat) _ (at .heights) (search needs) (at .inv .0) in
     let e : at .seat ≡ a .t .seats = omega (arith, at .inv .0 .within) in
-    let room = HasRoom (a .grid .now) (a .caps .now) (a .t .windows) in
-    let rooms : Rows (a .t .seats) room (at .rooms) = rows-end (at .inv .1 .0) (search needs) in
+    let I = instanceIn (a .t) (a .caps .now) in
     let graph : Graph = record { rooms = at .rooms; holders = at .holders } in
-    let moves = drawn (a .grid .now) (a .caps .now) (a .t) graph rooms (rw e at (at .inv .1 .1 .1)) in
-    finds-right (a .t) (a .caps .now) (a .grid .now) (start .pre .0 .ranged) _ graph scores moves
+    let moves = drawn I (cell (a .grid .now)) graph (rw e at (at .inv .1 .0 .1)) (rw e at (at .inv .1 .1 .1)) in
+    finds-right (a .t) (a .caps .now) (a .grid .now) (start .pre .0 .ranged) _ graph scores
+    (λ J S told shows. drawn-told (a .t) (a .caps .now) (a .grid .now) J S told shows graph moves)
     (c .find .result .kind) _ (c .find .ensures)
 
 pub find-path-spec : {M : Type 1} → statement M
