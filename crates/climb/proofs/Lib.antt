@@ -1,0 +1,4 @@
+-- The laws that the functions' proofs cite.
+pub mod Later
+pub mod Searching
+pub mod Climbing
