@@ -97,10 +97,10 @@ module _ (file : List ℕ) (b : Book) (s : Grid) (before after : List ℕ) (r : 
       go settled e = absurd (failing (subst Passing (sym (answers ∙ ap (λ (k : Mark). answer (resultOf k)) e)) (inr refl)))
 
 module _ (file before after : List ℕ) (n : ℕ) (plans : Plans file before after (Whole n)) where
-  planned-free : NoneHolds (planLines file (length before))
+  pub planned-free : NoneHolds (planLines file (length before))
   planned-free = none-holds (planLines file (length before)) (answer-none plans n refl .0)
 
-  the-planned : take n after ≡ planner.theFile file before after (Whole n) plans planned-free
+  pub the-planned : take n after ≡ planner.theFile file before after (Whole n) plans planned-free
   the-planned =
       let sheet = planner.planned file before after (Whole n) plans planned-free in
       let size = answered none (length (planner.theFile file before after (Whole n) plans planned-free)) n
@@ -112,10 +112,11 @@ module _ (file before after : List ℕ) (n : ℕ) (plans : Plans file before aft
       record {
         sheet = planner.planned file before after (Whole n) plans planned-free .sheet;
         reads-back = rw the-planned (planner.reads-back file before after (Whole n) plans planned-free);
-        lawful = planner.planned file before after (Whole n) plans planned-free .settled .feasible;
+        lawful = planner.settled file before after (Whole n) plans planned-free .feasible;
         highest = planner.highest file before after (Whole n) plans planned-free;
-        ordered = planner.planned file before after (Whole n) plans planned-free .settled .ordered;
+        ordered = planner.settled file before after (Whole n) plans planned-free .ordered;
         totals-are = planner.settled-totals file before after (Whole n) plans planned-free;
+        standard = planner.planned file before after (Whole n) plans planned-free .standard;
       }
 
   pub planned-passes : (moves moves′ : List ℕ) (r : Marking) → movesRoom ≤ length moves → Marks (take n after) moves moves′ r →
@@ -124,4 +125,5 @@ module _ (file before after : List ℕ) (n : ℕ) (plans : Plans file before aft
       let sheet = planner.planned file before after (Whole n) plans planned-free in
       let back = planner.reads-back file before after (Whole n) plans planned-free in
       let whole = planner.theFile file before after (Whole n) plans planned-free in
-      marked-4 whole (bookOf file) (sheet .sheet) back (sheet .settled) moves moves′ r long (rw the-planned at marks)
+      let settled = planner.settled file before after (Whole n) plans planned-free in
+      marked-4 whole (bookOf file) (sheet .sheet) back settled moves moves′ r long (rw the-planned at marks)

@@ -47,7 +47,7 @@ write-free f room free long =
     ∙ on-after (optionLines f) (bufferLines room (length f)) (values .1) ∙ buffer)
 
 -- a call that answers a length wrote a whole file
-whole-of : (r : Written) (n : ℕ) → written r ≡ answer n → r ≡ Whole n
+pub whole-of : (r : Written) (n : ℕ) → written r ≡ answer n → r ≡ Whole n
 whole-of (Whole m) n e = ap Whole cc
 whole-of (Refused m p) n e = absurd (let z : _≡_ {A = ℕ} 0 1 = cc in omega arith)
 

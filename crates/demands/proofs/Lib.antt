@@ -4,5 +4,6 @@ pub mod Files
 pub mod Marked
 pub mod Fairness
 pub mod Better
--- the three demands
+pub mod Standard
+-- the three demands, and what stands behind them
 pub mod Theorems

@@ -1,11 +1,12 @@
--- The three demands hold, and what is said of the better of two. The statements are in specs/Demands.antt; nothing is assumed.
-use Rattle.model.proofs.Theorems.{highest-list-exists, highest-lists-equal}
-use Rattle.demands.specs.Demands.{Demand1, Demand2, Demand3, BetterOfTwo}
+-- The three demands hold, and what is said of the better of two and of the standard sheet. The statements are in specs/Demands.antt; nothing is assumed.
+use Rattle.model.proofs.Theorems.{highest-list-exists, highest-lists-equal, standard-exists, standard-one}
+use Rattle.demands.specs.Demands.{Demand1, Demand2, Demand3, BetterOfTwo, OneStandardSheet}
 use Rattle.demands.proofs.Outcomes.{first}
 use Rattle.demands.proofs.Documents.{lawful-frugal, wasteful-not-non-wasteful}
 use Rattle.demands.proofs.Files.{reads-back, same-bytes}
 use Rattle.demands.proofs.Better.{inside, same-sheet, not-lower, passes}
 use Rattle.demands.proofs.Fairness.{passes-exactly, passing-highest, fails, planned, planned-passes}
+use Rattle.demands.proofs.Standard as standard
 
 -- each call gives a defined outcome or a numbered refusal, and a refusal changes no byte
 pub demand-1 : Demand1
@@ -37,3 +38,7 @@ demand-3 =
 -- of two hand-ins the one that is handed back has the higher list, and passes where either does
 pub better-of-two : BetterOfTwo
 better-of-two = record { inside = inside; same-sheet = same-sheet; not-lower = not-lower; passes = passes }
+
+-- a book has one standard sheet, and what the planner writes is the same, whatever the buffer
+pub one-standard-sheet : OneStandardSheet
+one-standard-sheet = record { there = standard-exists; no-other = standard-one; same-bytes = standard.same-bytes }

@@ -1,6 +1,6 @@
 -- The three demands, each as one statement over the contracts of the public calls: the reader's `Reads`, the writer's `WritesDay`, the
 -- marker's `Marks`, the planner's `Plans`, the listing's `Lists`, and of the better of two `Chooses` and `HandsBack`. Behind them stands
--- what the better of two means to its reader. Proved in proofs/Theorems.antt.
+-- what the better of two and the standard sheet mean to their reader. Proved in proofs/Theorems.antt.
 use mathlib.Core.Path.{_≡_}
 use mathlib.Core.List.{List, []}
 use mathlib.Core.Logic.{_↔_, _⊎_}
@@ -13,7 +13,7 @@ use Rattle.fairness.specs.Leximin.{Level, NoHigher, Equal, Higher, profile}
 use Rattle.fairness.specs.Exchange.{Settled, Tied, playAll, PlaysOut}
 use Rattle.model.specs.Book.{Grid, Book, SheetOf, Lawful, cell, instanceOf, totals}
 use Rattle.model.specs.Marks.{markOf, resultOf}
-use Rattle.model.specs.Fair.{profileOf, HighestList}
+use Rattle.model.specs.Fair.{profileOf, HighestList, StandardSheet}
 use Rattle.dayfile.specs.declared.Day.{Day}
 use Rattle.dayfile.specs.declared.Reading.{Reading}
 use Rattle.dayfile.specs.declared.Written.{Written}
@@ -47,7 +47,7 @@ pub record Demand1 : Type 0 where
       Defined (markLines file (length before)) before after (told r)
       (λ x. (x ≡ resultOf (markOf (bookOf file) (markedSheet file)))
       × BufferAfter (bookOf file) (markedSheet file) (answer (markOf (bookOf file) (markedSheet file))) before after)
-  -- the planner's is the planned file's length, and the file with a settled sheet stands at the buffer's front
+  -- the planner's is the planned file's length, and the file with the standard sheet stands at the buffer's front
   pub planner : (file before after : List ℕ) (r : Written) → Plans file before after r →
       Defined (planLines file (length before)) before after (written r)
       (λ n. (n ≡ plannedLength (bookOf file)) × Planned (bookOf file) before after)
@@ -106,8 +106,8 @@ pub record Improves (b : Book) (s : Grid) (n : ℕ) (buffer : List ℕ) : Type 0
   pub lawful : Feasible (instanceOf b) (playAll (cell s) (movesIn n buffer))
   pub higher : Higher NoHigher (profileOf b s) (profile (instanceOf b) (playAll (cell s) (movesIn n buffer)))
 
--- the first n bytes of a buffer are a file of this book with a sheet that is lawful, has the book's highest list and follows the seat rule,
--- and all settled sheets of the book have its totals
+-- the first n bytes of a buffer are a file of this book with a sheet that is lawful, has the book's highest list and follows the seat rule;
+-- all settled sheets of the book have its totals, and of them all it is the standard one
 pub record PlannedFile (b : Book) (n : ℕ) (buffer : List ℕ) : Type 0 where
   pub sheet : Grid
   pub reads-back : readFile (take n buffer) ≡ answer (b, some sheet)
@@ -115,6 +115,7 @@ pub record PlannedFile (b : Book) (n : ℕ) (buffer : List ℕ) : Type 0 where
   pub highest : HighestList b (profileOf b sheet)
   pub ordered : Tied (instanceOf b) (cell sheet) → ⊥
   pub totals-are : (t : Grid) → Settled (instanceOf b) (cell t) → totals b t ≡ totals b sheet
+  pub standard : StandardSheet b sheet
 
 pub record Demand3 : Type 0 where
   -- there is one highest list
@@ -158,3 +159,16 @@ pub record BetterOfTwo : Type 0 where
   pub passes : (f g : List ℕ) (side either : Side) → ChosenOf f g side →
       (before after before′ after′ : List ℕ) (r r′ : Marking) → movesRoom ≤ length before → movesRoom ≤ length before′ →
       Marks (fileOn either f g) before after r → Passing (told r) → Marks (fileOn side f g) before′ after′ r′ → Passing (told r′)
+
+-- ---- The standard sheet (paper 02, E4), for its reader
+
+pub record OneStandardSheet : Type 0 where
+  -- every book has one, and no other
+  pub there : (b : Book) → (s : Grid) × StandardSheet b s
+  pub no-other : (b : Book) (s t : Grid) → StandardSheet b s → StandardSheet b t → s ≡ t
+  -- of an accepted file the planner writes the same bytes to any two buffers that are long enough
+  pub same-bytes : (file : List ℕ) → NoneHolds (readLines file) → (before after before′ after′ : List ℕ) (r r′ : Written) →
+      plannedLength (bookOf file) ≤ length before → plannedLength (bookOf file) ≤ length before′ →
+      Plans file before after r → Plans file before′ after′ r′ →
+      (r ≡ Whole (plannedLength (bookOf file))) × ((r′ ≡ r)
+      × (take (plannedLength (bookOf file)) after ≡ take (plannedLength (bookOf file)) after′))

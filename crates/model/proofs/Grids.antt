@@ -3,7 +3,9 @@ use mathlib.Core.Path.{_≡_, refl, sym, ap, _∙_}
 use mathlib.Core.List.{List, []}
 use Prim.Native.Nat.{ℕ, _<_}
 use native.Mathlib.Nat.{le-trans, le-of-eq}
+use native.Mathlib.Omega.{arith}
 use lib.ListN.{length, getD}
+use lib.Seq.{ext-getD}
 use Rattle.fairness.specs.Instance.{Instance, Sheet, Feasible, placed}
 use Rattle.fairness.specs.Leximin.{table, profile}
 use Rattle.fairness.proofs.Sums.{sum-eq}
@@ -28,6 +30,13 @@ pub gridOf-shaped : (n m : ℕ) (T : Sheet) → Shaped n m (gridOf n m T)
 unfolding gridOf
 gridOf-shaped n m T =
     record { rows = table-length n (λ i. table m (T i)); row = λ i l. ap length (gridOf-row n m T i l) ∙ table-length m (T i) }
+
+-- two grids of one shape with the same cells
+pub shaped-same : (n m : ℕ) (s t : Grid) → Shaped n m s → Shaped n m t → ((i j : ℕ) → i < n → j < m → cell s i j ≡ cell t i j) → s ≡ t
+shaped-same n m s t a b same =
+    ext-getD [] s t (a .rows ∙ sym (b .rows)) (λ i l.
+    let li : i < n = omega (arith, a .rows) in
+    ext-getD 0 (getD s i []) (getD t i []) (a .row i li ∙ sym (b .row i li)) (λ j k. same i j li (omega (arith, a .row i li))))
 
 -- ---- two sheets that agree on the cells that are used
 

@@ -11,13 +11,14 @@ use Rattle.fairness.specs.Instance.{Proper, Feasible}
 use Rattle.fairness.specs.Leximin.{Level, NoHigher, Equal, Higher, levels, profile, Highest}
 use Rattle.fairness.specs.Exchange.{Move, playAll, PlaysOut, Settled}
 use Rattle.fairness.proofs.Theorems as fairness
+use Rattle.fairness.proofs.Standard as standard
 use Rattle.fairness.proofs.Weights.{weight-bounds}
 use Rattle.model.specs.Book.{Book, Grid, SheetOf, Lawful, cell, seats, windows, withFirst, firstSeat, instanceOf, totals}
-use Rattle.model.specs.Fair.{profileOf, HighestList}
+use Rattle.model.specs.Fair.{profileOf, HighestList, StandardSheet}
 use Rattle.model.specs.Search.{Found, PathOn}
 use Rattle.model.specs.Marks.{Mark, wasteful, improvable, tied, settled, Marked, markOf, passes}
-use Rattle.model.proofs.Grids.{table-same, gridOf, gridOf-cell, gridOf-shaped, agree-feasible, agree-profile}
-use Rattle.model.proofs.Agree.{agree-settled}
+use Rattle.model.proofs.Grids.{table-same, gridOf, gridOf-cell, gridOf-shaped, shaped-same, agree-feasible, agree-profile}
+use Rattle.model.proofs.Agree.{agree-settled, agree-standard}
 use Rattle.model.proofs.Places.{place-apart}
 use Rattle.model.proofs.Marks.{mark-means, waste-of}
 
@@ -29,6 +30,10 @@ module _ (b : Book) where
 
   -- ---- all sheets of functions, and all grids
 
+  -- the used cells of a sheet of functions, as a grid
+  in-grid : (T : ℕ → ℕ → ℕ) (i j : ℕ) → i < seats b → j < windows b → T i j ≡ cell (gridOf (seats b) (windows b) T) i j
+  in-grid T i j li lj = sym (gridOf-cell (seats b) (windows b) T i j li lj)
+
   -- a feasible sheet of functions is on the used cells a lawful sheet of the book, with the same list
   as-grid : (T : ℕ → ℕ → ℕ) → Feasible (instanceOf b) T →
       (t : Grid) × SheetOf b t × Lawful b t × (profile (instanceOf b) T ≡ profileOf b t)
@@ -36,12 +41,9 @@ module _ (b : Book) where
   as-grid T f = (
     gridOf (seats b) (windows b) T,
     gridOf-shaped (seats b) (windows b) T,
-    agree-feasible (instanceOf b) T (cell (gridOf (seats b) (windows b) T)) same f,
-    agree-profile (instanceOf b) T (cell (gridOf (seats b) (windows b) T)) same,
+    agree-feasible (instanceOf b) T (cell (gridOf (seats b) (windows b) T)) (in-grid T) f,
+    agree-profile (instanceOf b) T (cell (gridOf (seats b) (windows b) T)) (in-grid T),
   )
-    where
-      same : (i j : ℕ) → i < seats b → j < windows b → T i j ≡ cell (gridOf (seats b) (windows b) T) i j
-      same i j li lj = sym (gridOf-cell (seats b) (windows b) T i j li lj)
 
   -- a lawful sheet's list is the book's highest exactly where the sheet is highest among all feasible sheets of functions
   pub highest-list : (s : Grid) → SheetOf b s → Lawful b s → HighestList b (profileOf b s) ↔ Highest (instanceOf b) (cell s)
@@ -146,10 +148,23 @@ module _ (b : Book) where
   settled-exists =
       let top = fairness.settled-exists (instanceOf b) proper in
       let t = gridOf (seats b) (windows b) (top .0) in
-      (t, gridOf-shaped (seats b) (windows b) (top .0), agree-settled (instanceOf b) (top .0) (cell t) (same (top .0)) (top .1))
-    where
-      same : (T : ℕ → ℕ → ℕ) (i j : ℕ) → i < seats b → j < windows b → T i j ≡ cell (gridOf (seats b) (windows b) T) i j
-      same T i j li lj = sym (gridOf-cell (seats b) (windows b) T i j li lj)
+      (t, gridOf-shaped (seats b) (windows b) (top .0), agree-settled (instanceOf b) (top .0) (cell t) (in-grid (top .0)) (top .1))
+
+  -- every book has a standard sheet
+  pub standard-exists : (s : Grid) × StandardSheet b s
+  unfolding instanceOf
+  standard-exists =
+      let top = standard.standard-exists (instanceOf b) proper in
+      let t = gridOf (seats b) (windows b) (top .0) in
+      let its-grid = agree-standard (instanceOf b) (top .0) (cell t) (in-grid (top .0)) (top .1) in
+      (t, record { a-sheet = gridOf-shaped (seats b) (windows b) (top .0); standard = its-grid })
+
+  -- and only one
+  pub standard-one : (s t : Grid) → StandardSheet b s → StandardSheet b t → s ≡ t
+  unfolding instanceOf
+  standard-one s t h k =
+      shaped-same (seats b) (windows b) s t (h .a-sheet) (k .a-sheet)
+      (standard.standard-one (instanceOf b) (cell s) (cell t) (h .standard) (k .standard))
 
 -- ---- another seat named as the first
 

@@ -1,7 +1,8 @@
--- Paper 01's lists of levels, and the highest list of a book.
+-- Paper 01's lists of levels, the highest list of a book, and paper 02's standard sheet.
 use mathlib.Core.Path.{_≡_}
 use mathlib.Core.List.{List}
 use mathlib.Core.Logic.{_⊎_}
+use Rattle.fairness.specs.Standard.{Standard}
 use Rattle.fairness.specs.Leximin.{Level, NoHigher, Equal, Higher, profile}
 use Rattle.model.specs.Book.{Book, Grid, SheetOf, Lawful, cell, instanceOf}
 
@@ -17,3 +18,9 @@ pub record HighestList (b : Book) (xs : List Level) : Type 0 where
   pub lawful : Lawful b sheet
   pub its-list : profileOf b sheet ≡ xs
   pub most : (t : Grid) → SheetOf b t → Lawful b t → Equal NoHigher (profileOf b t) xs ⊎ Higher NoHigher (profileOf b t) xs
+
+-- paper 02's standard sheet of a book: of all settled sheets the one whose cells, read seat by seat and within a seat window by window, are
+-- highest in dictionary order
+pub record StandardSheet (b : Book) (s : Grid) : Type 0 where
+  pub a-sheet : SheetOf b s
+  pub standard : Standard (instanceOf b) (cell s)

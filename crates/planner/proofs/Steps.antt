@@ -7,9 +7,9 @@ use Prim.Native.Nat.{ℕ, _≤_, _<_}
 use native.Mathlib.Omega.{arith}
 use lib.ListN.{length}
 use borrow.Author.Tests.{lt-ltb, le-ltb}
-use Rattle.fairness.specs.Exchange.{Settled}
+use Rattle.fairness.specs.Standard.{Standard}
 use Rattle.model.specs.Book.{Book, Grid, SheetOf, cell, seats, windows, instanceOf}
-use Rattle.model.proofs.Agree.{agree-settled}
+use Rattle.model.proofs.Agree.{agree-standard}
 use Rattle.dayfile.specs.Layout.{bookOf}
 use Rattle.dayfile.specs.Table.{refuse, firstOf, line16, readLines, bufferLines, planLines, plannedLength}
 use Rattle.dayfile.specs.Memory.{sizedGrid, bookIn, dayBook, fileWith, front, Reads}
@@ -45,23 +45,22 @@ module _ (m : Memory.Book) (caps g : Grid) where
   unfolding fileWith
   planned-size = planned-length b used (book-shaped m caps) used-sheet
 
-  -- a settled grid makes a planned file
-  planned-is : Settled (instanceOf (bookIn m caps)) (cell g) → (old new : List ℕ) → new ≡ front (fileWith m caps true g) old
+  -- a standard grid makes a planned file
+  planned-is : Standard (instanceOf (bookIn m caps)) (cell g) → (old new : List ℕ) → new ≡ front (fileWith m caps true g) old
       → Planned (bookIn m caps) old new
   unfolding instanceOf fileWith
-  planned-is settled old new w =
+  planned-is standard old new w =
       record {
         sheet = used;
-        a-sheet = used-sheet;
-        settled = agree-settled (instanceOf b) (cell g) (cell used) used-cell settled;
+        standard = record { a-sheet = used-sheet; standard = agree-standard (instanceOf b) (cell g) (cell used) used-cell standard };
         bytes = w;
       }
 
 -- caps that were read and put into an array of arrays
-pub planned-as : (m : Memory.Book) (caps read g : Grid) → caps ≡ read → Settled (instanceOf (bookIn m caps)) (cell g)
+pub planned-as : (m : Memory.Book) (caps read g : Grid) → caps ≡ read → Standard (instanceOf (bookIn m caps)) (cell g)
     → (old new : List ℕ) → new ≡ front (fileWith m caps true g) old → Planned (bookIn m read) old new
-planned-as m caps read g e settled old new w =
-    subst (λ (x : Grid). Planned (bookIn m x) old new) e (planned-is m caps g settled old new w)
+planned-as m caps read g e standard old new w =
+    subst (λ (x : Grid). Planned (bookIn m x) old new) e (planned-is m caps g standard old new w)
 
 -- ---- the answers
 

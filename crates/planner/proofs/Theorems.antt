@@ -6,7 +6,7 @@ use Prim.Native.Nat.{ℕ}
 use lib.ListN.{length}
 use Rattle.fairness.specs.Exchange.{Settled}
 use Rattle.fairness.proofs.Theorems.{settled-highest}
-use Rattle.model.specs.Book.{Grid, cell, instanceOf, totals}
+use Rattle.model.specs.Book.{Grid, SheetOf, cell, instanceOf, totals}
 use Rattle.model.specs.Fair.{profileOf, HighestList}
 use Rattle.model.proofs.Theorems as model
 use Rattle.dayfile.specs.declared.Written.{Written}
@@ -26,13 +26,20 @@ module _
     (file before after : List ℕ) (r : Written) (plans : Plans file before after r)
     (none-hold : NoneHolds (planLines file (length before)))
   where
-    -- a settled sheet was planned, and its file stands at the buffer's front
+    -- the standard sheet was planned, and its file stands at the buffer's front
     pub planned : Planned (bookOf file) before after
     planned = plans .gives none-hold .1 .1 .1
 
     -- the planned file
     abbrev pub theFile : List ℕ
     theFile = fileOf (bookOf file) (some (planned .sheet))
+
+    shape : SheetOf (bookOf file) (planned .sheet)
+    shape = planned .standard .a-sheet
+
+    -- it is settled
+    pub settled : Settled (instanceOf (bookOf file)) (cell (planned .sheet))
+    settled = planned .standard .standard .settled
 
     fit : Fit (bookOf file)
     unfolding planLines
@@ -46,19 +53,19 @@ module _
     told-length =
         plans .gives none-hold .1 .0
         ∙ ap answer (plans .gives none-hold .1 .1 .0
-        ∙ sym (planned-length (bookOf file) (planned .sheet) (fit .cap-shape) (planned .a-sheet)))
+        ∙ sym (planned-length (bookOf file) (planned .sheet) (fit .cap-shape) shape))
 
     -- it reads back as the same book with the planned sheet
     pub reads-back : readFile theFile ≡ answer (bookOf file, some (planned .sheet))
-    reads-back = written-reads-back (bookOf file) (some (planned .sheet)) fit (planned .a-sheet)
+    reads-back = written-reads-back (bookOf file) (some (planned .sheet)) fit shape
 
     -- the planned sheet's list is the highest list of the book
     pub highest : HighestList (bookOf file) (profileOf (bookOf file) (planned .sheet))
     highest =
-        model.highest-list (bookOf file) (planned .sheet) (planned .a-sheet) (planned .settled .feasible) .1
-        (settled-highest (instanceOf (bookOf file)) (model.proper (bookOf file)) (cell (planned .sheet)) (planned .settled))
+        model.highest-list (bookOf file) (planned .sheet) shape (settled .feasible) .1
+        (settled-highest (instanceOf (bookOf file)) (model.proper (bookOf file)) (cell (planned .sheet)) settled)
 
     -- and all settled sheets of the book have the planned totals
     pub settled-totals : (s : Grid) → Settled (instanceOf (bookOf file)) (cell s) →
         totals (bookOf file) s ≡ totals (bookOf file) (planned .sheet)
-    settled-totals s h = model.settled-totals (bookOf file) s (planned .sheet) h (planned .settled)
+    settled-totals s h = model.settled-totals (bookOf file) s (planned .sheet) h settled

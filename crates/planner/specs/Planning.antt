@@ -4,8 +4,8 @@ use mathlib.Core.List.{List}
 use mathlib.Core.Option.{some}
 use Prim.Native.Nat.{ℕ}
 use lib.ListN.{length}
-use Rattle.fairness.specs.Exchange.{Settled}
-use Rattle.model.specs.Book.{Book, Grid, SheetOf, cell, instanceOf}
+use Rattle.model.specs.Book.{Book, Grid}
+use Rattle.model.specs.Fair.{StandardSheet}
 use Rattle.dayfile.specs.declared.Written.{Written}
 use Rattle.dayfile.specs.Layout.{bookOf}
 use Rattle.dayfile.specs.File.{fileOf}
@@ -13,15 +13,14 @@ use Rattle.dayfile.specs.Table.{plannedLength, planLines}
 use Rattle.dayfile.specs.Outcome.{Defined}
 use Rattle.dayfile.specs.Memory.{front, written}
 
--- the book's file with a settled sheet as kind 4 stands at the buffer's front, and the bytes after it keep their values. Which of the
--- settled sheets is free.
+-- the book's file with its standard sheet as kind 4 stands at the buffer's front, and the bytes after it keep their values
 pub record Planned (b : Book) (before after : List ℕ) : Type 0 where
   pub sheet : Grid
-  pub a-sheet : SheetOf b sheet
-  pub settled : Settled (instanceOf b) (cell sheet)
+  pub standard : StandardSheet b sheet
   pub bytes : after ≡ front (fileOf b (some sheet)) before
 
--- the planner's contract: down its lines, the length of the planned file, and a planned file of the book stands at the buffer's front
+-- the planner's contract: down its lines, the length of the planned file, and the planned file of the book stands at the buffer's front. A
+-- book has one standard sheet and no other (crates/model/proofs/Theorems.antt), so no byte is free.
 abbrev pub Plans : (file before after : List ℕ) → Written → Type 0
 Plans file before after r =
     Defined (planLines file (length before)) before after (written r)

@@ -1,5 +1,5 @@
 // Plans the sheet of a day file.
-ghost use Rattle.fairness.specs.Exchange.{Settled};
+ghost use Rattle.fairness.specs.Standard.{Standard};
 ghost use Rattle.model.specs.Book.{cell, instanceOf};
 ghost use Rattle.dayfile.specs.Bounds.{Fit};
 ghost use Rattle.dayfile.specs.Memory.{bookIn};
@@ -9,12 +9,14 @@ use dayfile::Check;
 use dayfile::Written;
 use sheet::Caps;
 
-// A settled sheet of the book that is in memory.
+// The standard sheet of the book that is in memory.
 fn planned_sheet(book: Book, caps: Caps) -> Caps
     requires { ⌜ Fit (bookIn book caps) ⌝ }
-    ensures { λ r. ⌜ Settled (instanceOf (bookIn book caps)) (cell r) ⌝ }
+    ensures { λ r. ⌜ Standard (instanceOf (bookIn book caps)) (cell r) ⌝ }
 {
-    engine::settled(instance::terms_of(book), &caps)
+    let terms = instance::terms_of(book);
+    let settled = engine::settled(terms, &caps);
+    standard::standard_from(settled, terms, &caps)
 }
 
 // The planned file at the front of the buffer, or the refusal.

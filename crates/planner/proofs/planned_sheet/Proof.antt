@@ -1,17 +1,26 @@
--- `planner::planned_sheet` meets its contract: what the engine settles.
-use Rattle.instance.proofs.Told.{small-told}
+-- `planner::planned_sheet` meets its contract: what the engine settles, made the standard sheet.
+use Rattle.instance.specs.Terms.{Small}
+use Rattle.instance.proofs.Told.{told-in, small-told}
 use Rattle.planner.proofs.planned_sheet.Statement.{statement}
 use Rattle.planner.proofs.planned_sheet.Tie as tie
 
+-- the numbers in memory are small
+small : (c : tie.After-terms-of) → Small (c .terms-of .result) (c .before .args .t2)
+small c =
+    let made = c .terms-of .ensures in
+    let b = c .before in
+    small-told _ (c .terms-of .result) (b .args .t2) (b .pre) (made .1 (b .args .t2)) (made .0)
+
 settled-requires : tie.Need-settled-requires
-settled-requires c κs =
-    let t = c .before in
-    let b = t .before in
-    let made = t .terms-of .ensures in
-    small-told _ (t .terms-of .result) (b .args .t2) (b .pre) (made .1 (b .args .t2)) (made .0)
+settled-requires c κs = small (c .before)
+
+standard-from-requires : tie.Need-standard-from-requires
+standard-from-requires c κs =
+    let t = c .before .before .before in
+    (small t, c .before .settled .ensures _ (told-in (t .terms-of .result) (t .before .args .t2)))
 
 returns : tie.Need-returns
-returns c = let t = c .before .before in c .settled .ensures _ (t .terms-of .ensures .1 (t .before .args .t2))
+returns c = let t = c .before .before .before .before in c .standard-from .ensures _ (t .terms-of .ensures .1 (t .before .args .t2))
 
 pub planned-sheet-spec : {M : Type 1} → statement M
-planned-sheet-spec = tie.close (tie.spec (λ c κs. (_, c .pre)) settled-requires returns)
+planned-sheet-spec = tie.close (tie.spec (λ c κs. (_, c .pre)) settled-requires standard-from-requires returns)
