@@ -7,6 +7,7 @@ pub mod memory;
 pub mod numbers;
 pub mod paths;
 pub mod rules;
+pub mod standard;
 
 pub struct Small {
     pub seats: usize,

@@ -14,18 +14,6 @@ pub struct Told {
     pub moves: usize,
 }
 
-// The better of a sheet and what was best before it.
-pub fn better(best: [u64; 8], s: Small, cells: &[u16; 12]) -> [u64; 8] {
-    if !feasible(s, cells) {
-        return best;
-    }
-    let rank = rank_of(s, cells);
-    if above(rank, best, 8) {
-        return rank;
-    }
-    best
-}
-
 // Mark 1 tells the place that is wasted, the others tell that there is none.
 fn rightly_wasted(s: Small, cells: &[u16; 12], told: Told) -> bool {
     let place = wasted(s, cells);

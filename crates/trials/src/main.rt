@@ -43,7 +43,7 @@ fn main() {
         Kind::Small,
         40000,
         &mut state,
-        b"small books, by number: sheets with this mark, sheets whose path has so many moves (0: none), books planned (0)\n",
+        b"small books, by number: sheets with this mark, with so many moves, books planned (1: with one settled sheet, 2: with several)\n",
     );
     run(
         Kind::Damaged,

@@ -1,4 +1,4 @@
-// Every sheet of a small book, marked, and what the marker says held against the rules; and the same of the planned sheet.
+// Every sheet of a small book, marked, and what the marker says held against the rules; the planned sheet held against the standard one.
 use crate::calls::mark;
 use crate::calls::plan_day;
 use crate::tally::Tally;
@@ -9,31 +9,30 @@ use draws::small::draw_small;
 use lawful::MOVES_ROOM;
 use oracle::Small;
 use oracle::marks::Told;
-use oracle::marks::better;
 use oracle::marks::rightly_marked;
 use oracle::memory::book_of;
-use oracle::memory::cells_of;
 use oracle::memory::grid_of;
 use oracle::next_sheet;
 use oracle::rules::feasible;
-use oracle::rules::rank_of;
+use oracle::standard::Best;
+use oracle::standard::best_alone;
+use oracle::standard::better;
 use say::all_from;
 use say::front;
 
 // No small book has more: 12 cells, and no cap above 3.
 const SHEETS: u32 = 16777216;
 
-// The best rank of all sheets. The sheet of zeros is the first.
-fn best_of(s: Small) -> [u64; 8] {
+// The best of all sheets. The sheet of zeros is the first.
+fn best_of(s: Small) -> Best {
     let caps = s.caps;
     let mut cells = [0u16; 12];
-    let mut best = rank_of(s, &cells);
+    let mut best = best_alone(s, cells);
     for _ in 0..SHEETS {
-        let next = better(best, s, &cells);
-        best = next;
         if !next_sheet(&mut cells, &caps) {
             return best;
         }
+        best = better(best, s, cells);
     }
     best
 }
@@ -92,13 +91,6 @@ fn judge_sheets(tally: Tally, s: Small, best: [u64; 8]) -> Tally {
     seen
 }
 
-// The cells of a file's sheet.
-fn cells_in(file: &[u8]) -> [u16; 12] {
-    let read = reader::read(file);
-    let day = read.day;
-    cells_of(day.sheet.to_grid())
-}
-
 // Whether a file is that of a book with these cells, a first seat that it names included.
 fn is_file(file: &[u8], s: Small, cells: [u16; 12]) -> bool {
     let mut written = [0u8; 96];
@@ -106,22 +98,23 @@ fn is_file(file: &[u8], s: Small, cells: [u16; 12]) -> bool {
     check::same(file, front(&written, length))
 }
 
-// Whether the planned sheet is the best one and gets mark 4, and all else of its file is the book's.
-fn judge_plan(s: Small, best: [u64; 8]) -> bool {
+// Whether the planned file is the book's with these cells. Its mark is judged with those of all feasible sheets.
+fn rightly_planned(s: Small, cells: [u16; 12]) -> bool {
     let small = s.caps;
     let caps = grid_of(small);
     let mut out = [255u8; 104];
     let end = plan_day(Day::new(book_of(s), caps, false, caps), &mut out);
-    let file = front(&out, end);
-    let cells = cells_in(file);
-    let v = judge_mark(s, best, cells, file);
-    (v.mark == 4) & v.right & is_file(file, s, cells)
+    is_file(front(&out, end), s, cells)
 }
 
-// A random small book, planned, and each of its feasible sheets marked.
+// A random small book, planned, and each of its feasible sheets marked. Books with several settled sheets are counted apart, since only
+// they have a settled sheet that is not the standard one.
 pub fn judge(state: &mut u32, tally: Tally) -> Tally {
     let s = draw_small(state);
     let best = best_of(s);
-    let seen = count(tally, 2, 0, judge_plan(s, best));
-    judge_sheets(seen, s, best)
+    let rank = best.rank;
+    let standard = best.cells;
+    let number = if best.several { 2 } else { 1 };
+    let seen = count(tally, 2, number, rightly_planned(s, standard));
+    judge_sheets(seen, s, rank)
 }
