@@ -104,7 +104,7 @@ def main():
     (ROOT / "docs" / "growth.svg").write_text(str(curves(tables["seats"], tables["windows"])))
     two = ["library", "plain Rust"]
     texts = {
-        "plan": table(tables["plan"], "plan", two + ["other method", "max flow"]),
+        "plan": table(tables["plan"], "plan", two + ["settled alone", "other method", "max flow"]),
         "first": table(tables["first"], "plan, with any first seat", two + ["other method", "without it"]),
         "mark": table(tables["mark"], "mark", two),
         "better": table(tables["better"], "better", two),

@@ -7,9 +7,8 @@
 
 MARK and PLAN are the commands of the two programs; both read a day file on standard input.
 NAME.listing is what MARK prints of NAME.day, and NAME.planned.listing what it prints of the file that PLAN makes of it.
-Cells of a planned sheet are free, but no line of its listing is: "placed" is the lesser of the supply and the caps
-together, all settled sheets have the same totals, and the mark is 4. Windows and middle seats of an exchange path are
-free too; the sheets here have one shortest path each.
+No line depends on what the rules leave free, the windows and middle seats of an exchange path: the sheets here have
+one shortest path each.
 """
 import pathlib
 import shlex

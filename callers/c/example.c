@@ -139,7 +139,8 @@ static size_t total(const credits_book *book, size_t seat) {
 
 static const char *const examples[] = {"k01", "k02", "k03",  "k04",  "k05", "k06", "k07",        "k08",
                                        "k09", "k10a", "k10b", "k11", "k12", "full-alone", "full-fixed", "full-ladder",
-                                       "pair-a", "pair-b", "first-k03", "first-k04", "first-three", "full-first"};
+                                       "pair-a", "pair-b", "first-k03", "first-k04", "first-three", "full-first",
+                                       "standard"};
 
 static void try_example(const char *folder, const char *name) {
     bytes file = load(folder, name, ".day");
@@ -216,6 +217,41 @@ static void try_waste(const char *folder) {
     CHECK(untouched(moves, 0));
     printf("k10a mark 1, window %u seat %u\n", m.window, m.seat);
     free(moves.at);
+    free(file.at);
+}
+
+/* ---- the standard sheet: of all settled ones the highest, read seat by seat and window by window */
+
+typedef uint16_t small_sheet[3][3];
+
+static void put_sheet(credits_book *book, const small_sheet sheet) {
+    for (size_t i = 0; i < 3; i++) memcpy(book->sheet[i], sheet[i], sizeof sheet[i]);
+}
+
+static void try_standard(const char *folder) {
+    static const small_sheet standard = {{1, 2, 0}, {2, 0, 1}, {1, 0, 2}};
+    static const small_sheet others[] = {{{1, 1, 1}, {3, 0, 0}, {0, 1, 2}},  /* highest window by window */
+                                         {{1, 0, 2}, {2, 0, 1}, {1, 2, 0}},  /* highest from the last seat on */
+                                         {{0, 1, 2}, {3, 0, 0}, {1, 1, 1}}}; /* lowest */
+    bytes file = load(folder, "standard", ".day"), plan = planned(file), moves = block(CREDITS_MOVES_MAX);
+    credits_book book = book_in(file);
+    book.has_sheet = 1;
+    put_sheet(&book, standard);
+    bytes expected = written(book);
+    CHECK(same(plan.at, expected, plan.length));
+    /* the others are settled too, and planned again they give the standard sheet */
+    for (size_t k = 0; k < sizeof others / sizeof others[0]; k++) {
+        put_sheet(&book, others[k]);
+        bytes other = written(book), again = planned(other);
+        CHECK(credits_mark(other.at, other.length, moves.at, moves.length).mark == CREDITS_SETTLED);
+        CHECK(!same(other.at, plan, other.length) && same(again.at, plan, again.length));
+        free(again.at);
+        free(other.at);
+    }
+    printf("standard planned: 1 2 0 / 2 0 1 / 1 0 2, and so with each of three other settled sheets\n");
+    free(expected.at);
+    free(moves.at);
+    free(plan.at);
     free(file.at);
 }
 
@@ -432,6 +468,7 @@ int main(int argc, char **argv) {
     for (size_t i = 0; i < sizeof examples / sizeof examples[0]; i++) try_example(folder, examples[i]);
     try_chain(folder);
     try_waste(folder);
+    try_standard(folder);
     for (size_t i = 0; i < sizeof examples / sizeof examples[0]; i++) try_better(folder, examples[i]);
     try_first_seats(folder);
     try_refused_pairs(folder);

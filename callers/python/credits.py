@@ -127,7 +127,7 @@ def mark(file):
 
 
 def plan(file):
-    """The same day file with a settled sheet."""
+    """The same day file with the standard sheet: of all settled ones the highest, read seat by seat and window by window."""
     out = buffer(FILE_MAX)
     return bytes(out[:accepted(LIBRARY.credits_plan(file, len(file), out, FILE_MAX)).length])
 

@@ -55,6 +55,21 @@ def try_chain():
     print('k08 settled: totals', *totals, 'as planned')
 
 
+def try_standard():
+    """Of all settled sheets the planned one is the highest, read seat by seat and window by window. The others are settled too."""
+    file = (FOLDER / 'standard.day').read_bytes()
+    plan = credits.plan(file)
+    book = credits.read(plan)
+    assert [list(row[:3]) for row in book.sheet[:3]] == [[1, 2, 0], [2, 0, 1], [1, 0, 2]]
+    by_windows, from_the_last_seat, lowest = '111 300 012', '102 201 120', '012 300 111'
+    for other in (by_windows, from_the_last_seat, lowest):
+        for row, cells in zip(book.sheet, other.split()):
+            row[:3] = [int(cell) for cell in cells]
+        assert credits.mark(credits.write(book)).mark == credits.SETTLED
+        assert credits.plan(credits.write(book)) == plan
+    print('standard planned: 1 2 0 / 2 0 1 / 1 0 2, and so with each of three other settled sheets')
+
+
 def try_better():
     """Of a spoilt sheet and the planned one the planned is chosen; on equal lists the first."""
     k04, k08, k11, k12 = ((FOLDER / f'{name}.day').read_bytes() for name in ('k04', 'k08', 'k11', 'k12'))
@@ -116,6 +131,7 @@ assert days
 for d in days:
     try_example(d)
 try_chain()
+try_standard()
 try_better()
 try_first_seats()
 try_refusals()

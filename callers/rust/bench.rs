@@ -5,8 +5,10 @@
 //!   bench stack       how much stack each call uses
 //!
 //! Columns: "library" is the proved library, "plain Rust" a version in plain Rust that does the same: for plan and better the same
-//! method step by step (bench/same_method.rs, bench/same_better.rs), for the other calls the version of reference.rs. "other method"
-//! is the planner of reference.rs and "max flow" a planner by maximum flow and bisection (bench/max_flow.rs).
+//! method step by step (bench/same_method.rs, bench/same_standard.rs, bench/same_better.rs), for the other calls the version of
+//! reference.rs. "other method" is the planner of reference.rs, "settled alone" the plain Rust of the same method without its last part,
+//! which makes the settled sheet standard, and "max flow" a planner by maximum flow and bisection (bench/max_flow.rs), whose sheet is any
+//! settled one.
 
 use std::fmt::Write;
 use std::hint::black_box;
@@ -22,6 +24,8 @@ mod max_flow;
 mod same_better;
 #[path = "bench/same_method.rs"]
 mod same_method;
+#[path = "bench/same_standard.rs"]
+mod same_standard;
 #[path = "bench/stack.rs"]
 mod stack;
 #[path = "bench/timing.rs"]
@@ -32,12 +36,13 @@ mod worst;
 use books::{file_of, planned, spoilt, windows_alone, with_first, Draw, KINDS};
 use reference::{Book, Sheet, FILE_LENGTH};
 use rng::Rng;
+use same_method::Counts;
 use timing::{side_by_side, Call, Times};
 
 const BOOKS: usize = 25;
 const ROUNDS: usize = 15;
 
-/// Books of each kind on which it is counted what the fast start leaves to settle.
+/// Books of each kind on which it is counted what the fast parts leave to the slow ones.
 const COUNTED: usize = 1000;
 
 /// A file on which the shortest exchange path has 24 moves, the most there are.
@@ -101,6 +106,7 @@ fn planners(file: &[u8]) -> Vec<Call<'_>> {
         call("library", |file, out| credits::plan(file, out).unwrap()),
         call("plain Rust", |file, out| same_method::plan(file, out).unwrap()),
         call("other method", |file, out| reference::plan(file, out).unwrap()),
+        call("settled alone", |file, out| same_method::settle_alone(file, out).unwrap()),
         call("max flow", |file, out| max_flow::plan(file, out).unwrap()),
     ]
 }
@@ -109,18 +115,17 @@ fn names(calls: &[Call]) -> Vec<&'static str> {
     calls.iter().map(|call| call.name).collect()
 }
 
-/// All planners on books of one kind and size. Max flow takes so long that fewer rounds do for it.
-fn plan_times(draw: Draw, (seats, windows): (usize, usize), with_max_flow: bool) -> Times {
+/// The first so many planners on books of one kind and size. Max flow, the last, takes so long that fewer rounds do for it.
+fn plan_times(draw: Draw, (seats, windows): (usize, usize), number: usize) -> Times {
     let mut rng = Rng::new(7);
     let mut times = Times::default();
     for _ in 0..BOOKS {
         let file = file_of(&draw(&mut rng, seats, windows), None);
         let mut calls = planners(&file);
-        let mut max_flow = calls.split_off(3);
+        calls.truncate(number);
+        let mut max_flow = calls.split_off(number.min(4));
         let mut medians = side_by_side(&mut calls, ROUNDS, 1);
-        if with_max_flow {
-            medians.extend(side_by_side(&mut max_flow, 3, 1));
-        }
+        medians.extend(side_by_side(&mut max_flow, 3, 1));
         times.add(medians);
     }
     times
@@ -130,7 +135,7 @@ fn plan_table(csv: &mut String) {
     let names = names(&planners(&[]));
     heading("plan, 32 seats, 24 windows", &names);
     for (kind, draw) in KINDS {
-        line(csv, "plan", kind, &names, &plan_times(draw, (32, 24), true));
+        line(csv, "plan", kind, &names, &plan_times(draw, (32, 24), names.len()));
     }
     println!("{}", agreement(|_, book| book));
 }
@@ -156,40 +161,46 @@ fn first_table(csv: &mut String) {
     println!("{}", agreement(with_first));
 }
 
-/// What the fast start leaves to settle, counted in plain Rust of the same method, on full-size books with any first seat.
+/// What the fast parts leave to the slow ones, counted in plain Rust of the same method, on full-size books with any first seat.
 fn count_settling() {
     let mut rng = Rng::new(23);
     let (mut settled, mut turned, mut most) = (0, 0, 0);
+    let (mut left, mut most_pushes) = (0, 0);
     for (_, draw) in KINDS {
         for _ in 0..COUNTED {
             let plain = draw(&mut rng, 32, 24);
             let book = with_first(&mut rng, plain.clone());
-            let [coarse, fine, settling] = same_method::turns(&book);
+            let Counts { turns: [coarse, fine, settling], work, totals } = same_method::counts(&book);
             settled += (settling > 0) as usize;
-            turned += (same_method::totals(&book) != same_method::totals(&plain)) as usize;
+            turned += (totals != same_method::counts(&plain).totals) as usize;
             most = most.max(coarse + fine);
+            left += (work.left > 0) as usize;
+            most_pushes = most_pushes.max(work.pushes);
         }
     }
     let books = KINDS.len() * COUNTED;
     println!("Settling has something to do on {settled} of {books} books, the fast start at most {most} turns;");
     println!("on {turned} of them the first seat changes the totals.");
+    println!("The fast pass to the standard sheet leaves something on {left} of them; it exchanges at most {most_pushes} times.");
 }
 
 /// A sentence on what all planners make of the same books, as they are or with something changed.
 fn agreement(change: fn(&mut Rng, Book) -> Book) -> String {
-    let (mut rng, mut same) = (Rng::new(7), 0);
+    let mut rng = Rng::new(7);
     for (_, draw) in KINDS {
         for _ in 0..BOOKS {
             let book = draw(&mut rng, 32, 24);
-            same += agree(&change(&mut rng, book)) as usize;
+            assert_agree(&change(&mut rng, book));
         }
     }
     let books = KINDS.len() * BOOKS;
-    format!("All four give the same totals; library and plain Rust the same cells on {same} of {books} books.")
+    format!(
+        "On all {books} books library, plain Rust and other method give the same bytes, the other two the same totals."
+    )
 }
 
-/// All planners must give the same totals. Says whether the library and the same method in plain Rust give the same cells.
-fn agree(book: &Book) -> bool {
+/// The planners of standard sheets must give the same bytes, and the others the same totals.
+fn assert_agree(book: &Book) {
     let file = file_of(book, None);
     let planned = |plan: &dyn Fn(&[u8], &mut [u8]) -> Option<usize>| {
         let mut out = vec![0; FILE_LENGTH];
@@ -200,14 +211,14 @@ fn agree(book: &Book) -> bool {
     let library = planned(&|file, out| credits::plan(file, out).ok());
     let same = planned(&|file, out| same_method::plan(file, out).ok());
     let other = planned(&|file, out| reference::plan(file, out).ok());
+    assert!(library == same && library == other, "the planned files differ");
+    let settled = planned(&|file, out| same_method::settle_alone(file, out).ok());
     let flow = planned(&|file, out| max_flow::plan(file, out).ok());
     let totals = |file: &Vec<u8>| {
         let sheet = reference::read(file).expect("a planned file").1.expect("a planned sheet");
         sheet.map(|row| row.iter().map(|&cell| cell as u32).sum::<u32>())
     };
-    let all_same = [&same, &other, &flow].iter().all(|file| totals(file) == totals(&library));
-    assert!(all_same, "the planners' totals differ");
-    library == same
+    assert!(totals(&settled) == totals(&library) && totals(&flow) == totals(&library), "the planners' totals differ");
 }
 
 /// Planning as books grow, a quarter filled: the number that grows, and the size of the book.
@@ -215,7 +226,7 @@ fn growth_table(csv: &mut String, table: &str, title: &str, sizes: impl Iterator
     let names = names(&planners(&[])[..3]);
     heading(title, &names);
     for (case, size) in sizes {
-        line(csv, table, &case.to_string(), &names, &plan_times(books::quarter, size, false));
+        line(csv, table, &case.to_string(), &names, &plan_times(books::quarter, size, names.len()));
     }
 }
 

@@ -91,7 +91,7 @@ pub fn file_of(book: &Book, sheet: Option<&Sheet>) -> Vec<u8> {
     out[..length].to_vec()
 }
 
-/// A settled sheet of a book.
+/// The standard sheet of a book.
 pub fn planned(book: &Book) -> Sheet {
     let mut out = [0; FILE_LENGTH];
     let length = plan(&file_of(book, None), &mut out).expect("a book within its bounds");
@@ -121,6 +121,21 @@ pub fn spoilt(rng: &mut Rng, book: &Book, sheet: &Sheet, moves: usize, most: usi
             let credits = room(book, &sheet, window, giver, taker).min(rng.between(1, most) as u16);
             hand_over(&mut sheet, window, giver, taker, credits);
         }
+    }
+    sheet
+}
+
+/// A sheet with the same totals and window sums, and mostly with other cells: pairs of seats exchange as many credits in one window as in
+/// another, where there is room.
+pub fn same_totals(rng: &mut Rng, book: &Book, sheet: &Sheet) -> Sheet {
+    let mut sheet = *sheet;
+    for _ in 0..30 {
+        let (seat, other) = (rng.below(book.seats), rng.below(book.seats));
+        let (there, back) = (rng.below(book.windows), rng.below(book.windows));
+        let most = room(book, &sheet, there, seat, other).min(room(book, &sheet, back, other, seat));
+        let credits = most.min(rng.between(1, 40) as u16);
+        hand_over(&mut sheet, there, seat, other, credits);
+        hand_over(&mut sheet, back, other, seat, credits);
     }
     sheet
 }

@@ -2,10 +2,10 @@
 //!
 //!   compare [N]   N files (200,000) through read, mark, plan and listing, N books through write, and N pairs of files through better
 //!
-//! Output buffers of any length are compared whole, with bytes around them. What paper 01 leaves free is tested by its rules: a
-//! planned sheet is lawful, has the settled totals and gets mark 4; a chain has the right ends and the right number of moves, all
-//! of them possible, and ends in a list that is higher (mark 2) or equal (mark 3). The first difference ends the run with
-//! status 1, and what it was met with is kept under target/compare.
+//! Output buffers of any length are compared whole, with bytes around them, and so are the planned files in them. What paper 01 leaves
+//! free is tested by its rules: a chain has the right ends and the right number of moves, all of them possible, and ends in a list that
+//! is higher (mark 2) or equal (mark 3). The first difference ends the run with status 1, and what it was met with is kept under
+//! target/compare.
 
 use std::path::PathBuf;
 use std::process::ExitCode;
@@ -35,13 +35,15 @@ const FILES: usize = 200_000;
 /// From this many files on, every refusal, every mark and every outcome must have come up.
 const ENOUGH: usize = 20_000;
 
-/// What was met so far: refusals and marks by number, what first seats did to plans, and what came of pairs.
+/// What was met so far: refusals and marks by number, what first seats and the step to the standard sheet did to plans, and what came of
+/// pairs.
 #[derive(Default)]
 pub struct Seen {
     refusals: [usize; 19],
     marks: [usize; 5],
     longest_chain: u32,
     first_seats: [usize; calls::FIRST_SEATS.len()],
+    standards: [usize; calls::STANDARDS.len()],
     pairs: [usize; pairs::OUTCOMES.len()],
 }
 
@@ -69,7 +71,8 @@ fn main() -> ExitCode {
 
 impl Seen {
     fn lacks_something(&self) -> bool {
-        let counts = self.refusals[1..].iter().chain(&self.marks[1..]).chain(&self.first_seats).chain(&self.pairs);
+        let counts = self.refusals[1..].iter().chain(&self.marks[1..]);
+        let counts = counts.chain(&self.first_seats).chain(&self.standards).chain(&self.pairs);
         counts.copied().min() == Some(0)
     }
 }
@@ -82,6 +85,7 @@ fn report(seen: &Seen) {
     println!("refusals by number, 1 to 18: {:?}", &seen.refusals[1..]);
     println!("marks by number: {:?}, the longest chain with {} moves", &seen.marks[1..], seen.longest_chain);
     println!("planned: {}", by_name(&calls::FIRST_SEATS, &seen.first_seats));
+    println!("standard sheets: {}", by_name(&calls::STANDARDS, &seen.standards));
     println!("pairs: {}", by_name(&pairs::OUTCOMES, &seen.pairs));
 }
 

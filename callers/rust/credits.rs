@@ -220,7 +220,8 @@ pub fn mark(file: &[u8]) -> Result<Mark, Refusal> {
     })
 }
 
-/// Plans the book of a day file and writes the file with its planned sheet to the front of `out`; gives its length.
+/// Plans the book of a day file and writes the file with the standard sheet to the front of `out`; gives its length.
+/// Of all settled sheets this is the highest, read seat by seat and window by window.
 pub fn plan(file: &[u8], out: &mut [u8]) -> Result<usize, Refusal> {
     length(raw::plan(file, out))
 }

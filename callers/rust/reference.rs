@@ -17,6 +17,8 @@ mod listing;
 mod marker;
 #[path = "reference/planner.rs"]
 mod planner;
+#[path = "reference/standard.rs"]
+mod standard;
 
 #[cfg(test)]
 #[path = "reference/brute_force.rs"]
@@ -29,7 +31,7 @@ pub use better::{better, choose, Better, PairRefusal};
 pub use day_file::{read, write, Layout};
 pub use listing::listing;
 pub use marker::{feasible, mark, Marked};
-pub use planner::plan;
+pub use planner::{plan, settled_sheet};
 
 /// The most seats and windows that a book has.
 pub const SEATS: usize = 32;

@@ -2,25 +2,34 @@
 //! place and with nothing proved.
 //!
 //! Every window is handed out seat by seat. Then the lowest seat takes from the highest one that it reaches along a shortest
-//! exchange path, many credits at once: first only where 64 or more can go, then down to single credits. At last the marker's
-//! search looks for an exchange that is left, and plays it, until there is none.
+//! exchange path, many credits at once: first only where 64 or more can go, then down to single credits. Then the marker's search
+//! looks for an exchange that is left, and plays it, until there is none. At last the settled sheet is made standard.
 
 use super::reference::{read, write, Book, Refusal, Sheet, SEATS, WEIGHTS, WINDOWS};
+use super::same_standard::{standard, Work};
 
-/// Plans the book of a day file and writes the whole file with the planned sheet to the front of `out`.
+/// Plans the book of a day file and writes the whole file with the standard sheet to the front of `out`.
 pub fn plan(file: &[u8], out: &mut [u8]) -> Result<usize, Refusal> {
     let (book, _) = read(file)?;
-    write(&book, Some(&Desk::plan(&book).grid), out)
+    write(&book, Some(&standard(&book, &Desk::settled(&book).grid).0), out)
 }
 
-/// How many turns each of the three parts takes on a book.
-pub fn turns(book: &Book) -> [usize; 3] {
-    Desk::plan(book).turns
+/// The same up to the settled sheet, which is written as it is.
+pub fn settle_alone(file: &[u8], out: &mut [u8]) -> Result<usize, Refusal> {
+    let (book, _) = read(file)?;
+    write(&book, Some(&Desk::settled(&book).grid), out)
 }
 
-/// The planned totals.
-pub fn totals(book: &Book) -> [u64; SEATS] {
-    Desk::plan(book).totals
+/// What planning a book takes: the turns of the three parts that settle, and the work for the standard sheet; and the settled totals.
+pub struct Counts {
+    pub turns: [usize; 3],
+    pub work: Work,
+    pub totals: [u64; SEATS],
+}
+
+pub fn counts(book: &Book) -> Counts {
+    let Desk { turns, grid, totals, .. } = Desk::settled(book);
+    Counts { turns, work: standard(book, &grid).1, totals }
 }
 
 /// A sheet in the making with the numbers that the method looks at.
@@ -45,12 +54,12 @@ struct Tree {
 }
 
 /// The lowest member of a set that is not empty.
-fn lowest(set: u32) -> usize {
+pub fn lowest(set: u32) -> usize {
     set.trailing_zeros() as usize
 }
 
 /// The members of a set, lowest first.
-fn members(mut set: u32) -> impl Iterator<Item = usize> {
+pub fn members(mut set: u32) -> impl Iterator<Item = usize> {
     std::iter::from_fn(move || {
         let next = (set != 0).then(|| lowest(set));
         set &= set.wrapping_sub(1);
@@ -78,7 +87,7 @@ impl<'a> Desk<'a> {
         }
     }
 
-    fn plan(book: &'a Book) -> Desk<'a> {
+    fn settled(book: &'a Book) -> Desk<'a> {
         let mut desk = Desk::new(book);
         desk.fill();
         desk.turns[0] = desk.even_out(64);

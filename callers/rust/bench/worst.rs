@@ -1,25 +1,42 @@
 //! A search for books that take long to plan: random books, and from the hardest of some hundred uphill by small changes.
 //!
-//! Time wavers from run to run, so the search climbs by the number of turns that the method takes, which it counts in the plain
-//! version of the same method; the books it ends with are timed in the library.
+//! Time wavers from run to run, so the search climbs by what the method has to do, which it counts in the plain version of the same
+//! method: in one climb the turns that settling takes, in the next the searches and exchanges that the standard sheet takes. The books it
+//! ends with are timed in the library.
 
 use std::time::{Duration, Instant};
 
 use super::books::file_of;
 use super::credits;
-use super::reference::{Book, FILE_LENGTH};
+use super::reference::{Book, FILE_LENGTH, SEATS};
 use super::rng::Rng;
-use super::same_method::turns;
+use super::same_method::{counts, Counts};
 use super::timing::median;
 
-/// An exchange that is settled credit by credit costs about this many turns of the other parts.
-const SETTLING: usize = 20;
+/// What a climb goes by, and how it is reported.
+type Cost = fn(&Counts) -> usize;
+const COSTS: [(&str, Cost); 2] = [("settling", settling), ("standard", raising)];
 
-/// How many books the search has met, and on how many of them settling had something to do.
+/// An exchange that is settled credit by credit, or a search of the slow pass, counts as this many turns or searches of the fast parts.
+const SLOW: usize = 20;
+
+/// The turns that settling takes.
+fn settling(counts: &Counts) -> usize {
+    let [coarse, fine, settling] = counts.turns;
+    coarse + fine + SLOW * settling
+}
+
+/// What the standard sheet takes.
+fn raising(counts: &Counts) -> usize {
+    counts.work.searches + counts.work.pushes + SLOW * counts.work.left
+}
+
+/// How many books the search has met, and on how many of them the slow parts had something to do.
 #[derive(Default)]
 struct Met {
     books: usize,
     settling: usize,
+    raising: usize,
 }
 
 /// Climbs from random books for that many seconds, and reports the book that takes longest.
@@ -28,16 +45,15 @@ pub fn search(seconds: u64) {
     let (mut rng, mut met) = (Rng::new(17), Met::default());
     let (mut longest, mut climbs) = (0.0, 0);
     while Instant::now() < end {
-        let books = (0..1000).map(|_| any_book(&mut rng));
-        let start = books.max_by_key(|book| met.cost(book)).expect("1000 books");
+        let (name, cost) = COSTS[climbs % COSTS.len()];
+        let draw = [any_book, level_book][climbs / COSTS.len() % 2];
+        let books = (0..1000).map(|_| draw(&mut rng));
+        let start = books.max_by_key(|book| met.cost(book, cost)).expect("1000 books");
         let until = end.min(Instant::now() + Duration::from_secs(seconds.div_ceil(12)));
-        let (book, changes) = climb(&mut rng, &mut met, start.clone(), until);
+        let (book, changes) = climb(&mut rng, &mut met, cost, start.clone(), until);
         let time = plan_time(&book);
-        println!(
-            "climb {climbs} from {:?} turns: {changes} changes, {:?} turns, {time:.0} µs",
-            turns(&start),
-            turns(&book)
-        );
+        println!("climb {climbs} by {name}: {}", took(&start));
+        println!("  after {changes} changes {}, {time:.0} µs", took(&book));
         climbs += 1;
         if time > longest {
             longest = time;
@@ -46,7 +62,14 @@ pub fn search(seconds: u64) {
         }
     }
     println!("settling had something to do on {} of {} books", met.settling, met.books);
+    println!("the fast pass to the standard sheet left something on {}", met.raising);
     println!("longest plan found: {longest:.0} µs, target/worst.day");
+}
+
+/// What planning a book takes, in words.
+fn took(book: &Book) -> String {
+    let Counts { turns, work, .. } = counts(book);
+    format!("{turns:?} turns, {} searches, {} exchanges, {} slow searches", work.searches, work.pushes, work.left)
 }
 
 /// A book with caps and supplies of any size: how high, how many and how scarce is drawn for the whole book. Half of the books name a first
@@ -69,27 +92,37 @@ fn any_book(rng: &mut Rng) -> Book {
     book
 }
 
+/// A book of one class in which few totals differ: there is so little that no seat's caps keep it below the others.
+fn level_book(rng: &mut Rng) -> Book {
+    let mut book = Book { classes: [1; SEATS], ..any_book(rng) };
+    let least = book.caps.iter().map(|row| row.iter().map(|&cap| cap as usize).sum()).min().unwrap_or(0);
+    let supply: usize = rng.below(least + 1) * SEATS / book.windows;
+    book.supplies[..book.windows].fill(supply.min(4095) as u16);
+    book
+}
+
 impl Met {
-    fn cost(&mut self, book: &Book) -> usize {
-        let [coarse, fine, settling] = turns(book);
+    fn cost(&mut self, book: &Book, cost: Cost) -> usize {
+        let counts = counts(book);
         self.books += 1;
-        self.settling += (settling > 0) as usize;
-        coarse + fine + SETTLING * settling
+        self.settling += (counts.turns[2] > 0) as usize;
+        self.raising += (counts.work.left > 0) as usize;
+        cost(&counts)
     }
 }
 
 /// Small changes, kept where the book gets no easier.
-fn climb(rng: &mut Rng, met: &mut Met, mut book: Book, end: Instant) -> (Book, usize) {
-    let (mut best, mut changes) = (met.cost(&book), 0);
+fn climb(rng: &mut Rng, met: &mut Met, cost: Cost, mut book: Book, end: Instant) -> (Book, usize) {
+    let (mut best, mut changes) = (met.cost(&book, cost), 0);
     while Instant::now() < end {
         let mut other = book.clone();
         for _ in 0..=rng.below(4) {
             change(rng, &mut other);
         }
-        let turns = met.cost(&other);
-        changes += (turns > best) as usize;
-        if turns >= best {
-            (book, best) = (other, turns);
+        let harder = met.cost(&other, cost);
+        changes += (harder > best) as usize;
+        if harder >= best {
+            (book, best) = (other, harder);
         }
     }
     (book, changes)

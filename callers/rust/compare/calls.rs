@@ -4,7 +4,7 @@ use super::books;
 use super::buffer::Buffer;
 use super::chain::{self, moves, totals, Bytes};
 use super::credits::raw;
-use super::reference::{self, feasible, Book, Layout, Refusal, Sheet, FILE_LENGTH, MOVES_LENGTH, SEATS, WINDOWS};
+use super::reference::{self, settled_sheet, Book, Refusal, Sheet, FILE_LENGTH, MOVES_LENGTH, SEATS, WINDOWS};
 use super::rng::Rng;
 use super::Seen;
 
@@ -26,6 +26,9 @@ pub const NOTHING: raw::Book = raw::Book {
 /// What a planned file's first seat can do, by place in the count.
 pub const FIRST_SEATS: [&str; 3] =
     ["without a first seat", "with one that changes no total", "with one that changes totals"];
+
+/// Whether the plain version's settled sheet had other cells before it was made standard, by place in the count.
+pub const STANDARDS: [&str; 2] = ["as first settled", "with other cells than first settled"];
 
 pub fn all(rng: &mut Rng, seen: &mut Seen, file: &[u8]) -> Result<(), String> {
     read(file)?;
@@ -103,36 +106,33 @@ pub fn written(plain: Result<usize, Refusal>) -> raw::WriteResult {
 }
 
 fn plan(rng: &mut Rng, seen: &mut Seen, file: &[u8]) -> Result<(), String> {
-    let mut twin = [0; FILE_LENGTH];
-    let need = reference::plan(file, &mut twin).unwrap_or(100);
+    let need = reference::plan(file, &mut [0; FILE_LENGTH]).unwrap_or(100);
     let mut buffer = Buffer::of_about(rng, need);
+    let mut twin = buffer.twin();
     let library = raw::plan(file, buffer.lend());
-    let plain = written(reference::plan(file, &mut buffer.twin()));
+    let plain = written(reference::plan(file, &mut twin));
     seen.refusals[plain.refusal as usize] += 1;
     same("plan", library, plain)?;
     let planned = buffer.front(library.length)?;
+    if let Some(at) = (0..library.length).find(|&at| planned[at] != twin[at]) {
+        return same(&format!("plan: the file from byte {at} on"), &planned[at..], &twin[at..library.length]);
+    }
     if library.refusal == 0 {
-        seen.first_seats[check_plan(planned, &twin[..need])?] += 1;
+        check_plan(seen, planned)?;
     }
     Ok(())
 }
 
-/// The same file but for the sheet, which is lawful and has the same totals; and both markers give it mark 4.
-/// Gives the place of what its first seat did.
-fn check_plan(planned: &[u8], plain: &[u8]) -> Result<usize, String> {
-    let (Ok((book, Some(right))), Ok((_, Some(sheet)))) = (reference::read(plain), reference::read(planned)) else {
+/// The library gives its own plan mark 4. Counts what the first seat and the step to the standard sheet did to the plan.
+fn check_plan(seen: &mut Seen, planned: &[u8]) -> Result<(), String> {
+    let settled = raw::MarkResult { refusal: 0, offset: 0, mark: 4, window: 0, seat: 0, moves: 0 };
+    same("plan: the mark", raw::mark(planned, &mut [0; MOVES_LENGTH]), settled)?;
+    let Ok((book, Some(sheet))) = reference::read(planned) else {
         return Err("plan: not a file with a sheet".to_string());
     };
-    let cells = Layout::of(&book, true).sheet;
-    let end = cells + 2 * book.seats * book.windows;
-    same("plan: bytes before the sheet", &planned[..cells], &plain[..cells])?;
-    same("plan: bytes after the sheet", &planned[end..], &plain[end..])?;
-    same("plan: lawful", feasible(&book, &sheet), Ok(()))?;
-    same("plan: totals", totals(&book, &sheet), totals(&book, &right))?;
-    let settled = raw::MarkResult { refusal: 0, offset: 0, mark: 4, window: 0, seat: 0, moves: 0 };
-    same("plan: the library's mark", raw::mark(planned, &mut [0; MOVES_LENGTH]), settled)?;
-    same("plan: the mark", reference::mark(planned, &mut [0; MOVES_LENGTH]).map(|marked| marked.mark), Ok(4))?;
-    Ok(what_first_does(&book, &right))
+    seen.first_seats[what_first_does(&book, &sheet)] += 1;
+    seen.standards[(settled_sheet(&book) != sheet) as usize] += 1;
+    Ok(())
 }
 
 /// Whether the book names a first seat, and whether its settled totals are others than those with seat 1 first.

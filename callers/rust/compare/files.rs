@@ -1,6 +1,6 @@
 //! Day files: accepted ones, damaged ones and noise.
 
-use super::books::{file_of, planned, spoilt, windows_alone, with_first, KINDS};
+use super::books::{file_of, planned, same_totals, spoilt, windows_alone, with_first, KINDS};
 use super::reference::{Book, Sheet, SEATS, WINDOWS};
 use super::rng::Rng;
 
@@ -60,7 +60,7 @@ pub fn any_first(rng: &mut Rng, book: Book) -> Book {
 /// A sheet as one may hand it in.
 pub fn sheet(rng: &mut Rng, book: &Book) -> Sheet {
     let first = rng.below(book.seats);
-    match rng.below(12) {
+    match rng.below(13) {
         0 => planned(book),
         1 => windows_alone(book, first),
         2 => spoilt(rng, book, &windows_alone(book, first), 100, 100),
@@ -72,6 +72,8 @@ pub fn sheet(rng: &mut Rng, book: &Book) -> Sheet {
         // Settled on a day on which another seat comes first.
         9 => planned(&any_first(rng, book.clone())),
         10 => with_other_cells(rng, book, &planned(book)),
+        // Settled as well, and mostly not the standard sheet.
+        11 => same_totals(rng, book, &planned(book)),
         _ => with_other_cells(rng, book, &NO_CREDITS),
     }
 }

@@ -1,6 +1,6 @@
 //! Pairs of day files, and the call that chooses between their sheets.
 
-use super::books::{file_of, full_caps, hand_over, planned, room, spoilt};
+use super::books::{file_of, full_caps, planned, same_totals, spoilt};
 use super::calls::same;
 use super::chain::{list, moves, play};
 use super::credits::raw;
@@ -121,20 +121,6 @@ fn one_credit_less(rng: &mut Rng, sheet: &Sheet) -> Sheet {
     let place = rng.below(held.len().max(1));
     if let Some(cell) = held.get_mut(place) {
         **cell -= 1;
-    }
-    sheet
-}
-
-/// Pairs of seats exchange as many credits in one window as in another, where there is room.
-fn same_totals(rng: &mut Rng, book: &Book, sheet: &Sheet) -> Sheet {
-    let mut sheet = *sheet;
-    for _ in 0..30 {
-        let (seat, other) = (rng.below(book.seats), rng.below(book.seats));
-        let (there, back) = (rng.below(book.windows), rng.below(book.windows));
-        let most = room(book, &sheet, there, seat, other).min(room(book, &sheet, back, other, seat));
-        let credits = most.min(rng.between(1, 40) as u16);
-        hand_over(&mut sheet, there, seat, other, credits);
-        hand_over(&mut sheet, back, other, seat, credits);
     }
     sheet
 }

@@ -1,4 +1,5 @@
-//! The wrapper against the library: paper 01's examples, first seats, refusals, short and empty buffers, calls side by side.
+//! The wrapper against the library: paper 01's examples, the standard sheet, first seats, refusals, short and empty buffers, calls side by
+//! side.
 
 use super::*;
 
@@ -87,6 +88,25 @@ fn marks_1_and_3() {
     assert_eq!(mark(&wasteful), Ok(Mark::Wasteful { window: 1, seat: 1 }));
     let tied = file_of(&book(&[3], &[&[3], &[3]], Some(&[&[1], &[2]])));
     assert_eq!(mark(&tied), Ok(Mark::Tied { chain: vec![Move { window: 1, giver: 2, taker: 1 }] }));
+}
+
+/// The book of examples/standard.day.
+fn three_by_three(sheet: Option<&[&[u16]]>) -> Book {
+    book(&[4, 2, 3], &[&[1, 2, 2], &[3, 0, 1], &[1, 2, 2]], sheet)
+}
+
+#[test]
+fn of_all_settled_sheets_the_standard_one_is_planned() {
+    let standard = file_of(&three_by_three(Some(&[&[1, 2, 0], &[2, 0, 1], &[1, 0, 2]])));
+    assert_eq!(planned(&file_of(&three_by_three(None))), standard);
+    let by_windows: &[&[u16]] = &[&[1, 1, 1], &[3, 0, 0], &[0, 1, 2]];
+    let from_the_last_seat: &[&[u16]] = &[&[1, 0, 2], &[2, 0, 1], &[1, 2, 0]];
+    let lowest: &[&[u16]] = &[&[0, 1, 2], &[3, 0, 0], &[1, 1, 1]];
+    for other in [by_windows, from_the_last_seat, lowest] {
+        let other = file_of(&three_by_three(Some(other)));
+        assert_eq!(mark(&other), Ok(Mark::Settled));
+        assert_eq!(planned(&other), standard);
+    }
 }
 
 /// K3 with that seat first.

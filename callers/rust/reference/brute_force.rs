@@ -3,7 +3,8 @@
 
 use super::exchange::Move;
 use super::marker::mark_sheet;
-use super::planner::plan_sheet;
+use super::planner::{plan_sheet, settled_sheet};
+use super::standard::standard;
 use super::tests::file_of;
 use super::*;
 
@@ -185,24 +186,72 @@ fn check_sheet(book: &Book, sheet: &Sheet, best: &[i64], planned: &[i64]) -> u32
 #[test]
 fn every_sheet_of_small_books() {
     let mut rng = Rng::new(1);
-    let (mut books, mut marks, mut turned) = (0, [0u32; 5], 0);
+    let (mut books, mut marks, mut turned, mut raised) = (0, [0u32; 5], 0, 0);
     while books < 6000 {
         let book = small_book(&mut rng);
         let Some(sheets) = feasible_sheets(&book) else { continue };
         let best = sheets.iter().map(|sheet| profile(&book, sheet)).max().unwrap();
         let planned = plan_sheet(&book);
-        assert_eq!(mark_by_the_rules(&book, &planned).0.mark, 4);
-        assert_eq!(feasible(&book, &planned), Ok(()));
-        let planned = totals(&book, &planned);
-        turned += (planned != totals(&book, &plan_sheet(&Book { first: None, ..book.clone() }))) as u32;
+        let totals_planned = totals(&book, &planned);
+        turned += (totals_planned != totals(&book, &plan_sheet(&Book { first: None, ..book.clone() }))) as u32;
+        raised += (planned != settled_sheet(&book)) as u32;
+        let mut settled = Vec::new();
         for sheet in &sheets {
-            marks[check_sheet(&book, sheet, &best, &planned) as usize] += 1;
+            let mark = check_sheet(&book, sheet, &best, &totals_planned);
+            marks[mark as usize] += 1;
+            settled.extend((mark == 4).then_some(sheet));
         }
+        // Sheets are compared by their cells in reading order.
+        assert_eq!(settled.into_iter().max(), Some(&planned), "the standard sheet is the highest of the settled ones");
         books += 1;
     }
     println!("{books} books; sheets with mark 1 to 4: {:?}", &marks[1..]);
-    println!("on {turned} of them the first seat changes the totals");
-    assert!(marks[1..].iter().all(|&count| count > 1000) && turned > 100);
+    println!("on {turned} of them the first seat changes the totals, on {raised} a settled sheet was not standard");
+    assert!(marks[1..].iter().all(|&count| count > 1000) && turned > 100 && raised > 300);
+}
+
+/// The highest sheet in reading order that has the totals and the window sums left, from some cell on: every number is tried, the highest
+/// first.
+fn fill_highest(book: &Book, sheet: &mut Sheet, cell: usize, totals: &mut [u16], sums: &mut [u16]) -> bool {
+    let (seat, window) = (cell / book.windows, cell % book.windows);
+    if seat == book.seats {
+        return sums.iter().all(|&sum| sum == 0);
+    }
+    for credits in (0..=book.caps[seat][window].min(totals[seat]).min(sums[window])).rev() {
+        sheet[seat][window] = credits;
+        totals[seat] -= credits;
+        sums[window] -= credits;
+        let ends_row = window + 1 == book.windows;
+        if !(ends_row && totals[seat] > 0) && fill_highest(book, sheet, cell + 1, totals, sums) {
+            return true;
+        }
+        totals[seat] += credits;
+        sums[window] += credits;
+    }
+    false
+}
+
+/// Of any sheet, settled or not, the step to the standard sheet gives the highest that has its totals and its window sums.
+#[test]
+fn the_highest_sheet_with_the_same_totals() {
+    let (mut rng, mut changed) = (Rng::new(3), 0);
+    for _ in 0..20_000 {
+        let mut book = Book::empty(rng.between(2, 5), rng.between(2, 5));
+        let (most, mut sheet) = (rng.between(1, 4), [[0; WINDOWS]; SEATS]);
+        for (seat, window) in (0..book.seats).flat_map(|seat| (0..book.windows).map(move |window| (seat, window))) {
+            let cap = if rng.once_in(4) { 0 } else { rng.between(1, most) };
+            book.caps[seat][window] = cap as u16;
+            sheet[seat][window] = rng.below(cap + 1) as u16;
+        }
+        let mut totals: Vec<u16> = sheet[..book.seats].iter().map(|row| row.iter().sum()).collect();
+        let mut sums: Vec<u16> = (0..book.windows).map(|window| sheet.iter().map(|row| row[window]).sum()).collect();
+        let mut highest = [[0; WINDOWS]; SEATS];
+        assert!(fill_highest(&book, &mut highest, 0, &mut totals, &mut sums));
+        assert_eq!(standard(&book, sheet), highest, "{book:?} {sheet:?}");
+        changed += (sheet != highest) as u32;
+    }
+    println!("{changed} sheets were not the highest");
+    assert!(changed > 5000);
 }
 
 #[test]

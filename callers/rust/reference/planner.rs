@@ -3,6 +3,7 @@
 use std::cmp::Ordering;
 
 use super::exchange::{bits, Position, Reach};
+use super::standard::standard;
 use super::{read, write, Book, Refusal, Sheet, SEATS, WEIGHTS, WINDOWS};
 
 /// Plans the book of a day file and writes the whole file with the planned sheet to the front of `out`.
@@ -11,9 +12,14 @@ pub fn plan(file: &[u8], out: &mut [u8]) -> Result<usize, Refusal> {
     write(&book, Some(&plan_sheet(&book)), out)
 }
 
+/// The standard sheet of the book.
+pub fn plan_sheet(book: &Book) -> Sheet {
+    standard(book, settled_sheet(book))
+}
+
 /// A settled sheet of the book: every window is handed out, then seats of low level take from seats of high level
 /// along exchange paths until a whole round has found nothing to take.
-pub fn plan_sheet(book: &Book) -> Sheet {
+pub fn settled_sheet(book: &Book) -> Sheet {
     let mut position = Position::new(book, fill(book));
     while settle_round(&mut position) {}
     position.sheet

@@ -6,6 +6,8 @@ use super::*;
 mod better_tests;
 #[path = "first_tests.rs"]
 mod first_tests;
+#[path = "standard_tests.rs"]
+mod standard_tests;
 
 /// A book of small parts; rows are seats.
 fn book(classes: &[u16], supplies: &[u16], caps: &[&[u16]]) -> Book {
