@@ -123,8 +123,9 @@ credits_write_result credits_write(credits_book book, uint8_t *out, size_t out_l
  * taker. Refusals 1 to 12, then 18, then 13 to 16. */
 credits_mark_result credits_mark(const uint8_t *file, size_t file_len, uint8_t *moves, size_t moves_len);
 
-/* The same day file with a settled sheet, to the front of `out`. A sheet that the file holds is ignored; a first seat is kept. Refusals
- * 1 to 12, then 18, then 16. */
+/* The same day file with its standard sheet, to the front of `out`: of all settled sheets of the book the one whose cells, read seat by
+ * seat and within a seat window by window, are highest in dictionary order. So one file is planned to the same bytes always. A sheet that
+ * the file holds is ignored; a first seat is kept. Refusals 1 to 12, then 18, then 16. */
 credits_write_result credits_plan(const uint8_t *file, size_t file_len, uint8_t *out, size_t out_len);
 
 /* A day file and its mark as text, to the front of `out`; there is no 0 byte at the end. For a file that credits_mark refuses the text is
