@@ -9,8 +9,8 @@
 use super::reference::{Book, Sheet, MOST_CREDITS, SEATS, WINDOWS};
 use super::same_method::{lowest, members};
 
-/// How often the fast pass raises one cell at most.
-const PUSHES: usize = 64;
+/// How many turns the fast pass takes on one row at most.
+const TURNS: usize = 1024;
 
 /// What it took: searches and exchanges of the fast pass, and the searches of the other one, which are none where the sweep passes.
 #[derive(Clone, Copy, Debug, Default)]
@@ -108,19 +108,20 @@ impl<'a> Raising<'a> {
         (0..self.book.windows).fold(0, |set, window| set | ((self.grid[seat][window] > 0) as u32) << window)
     }
 
-    /// A search that finds nothing closes its windows for the rest of the row.
     fn fast(&mut self) {
-        for seat in 0..self.book.seats {
-            self.held = self.held_by(seat);
-            let mut closed = 0;
-            for window in 0..self.book.windows {
-                for _ in 0..PUSHES {
-                    if closed >> window & 1 == 1 {
-                        break;
-                    }
-                    closed |= self.raise(seat, window, MOST_CREDITS);
-                }
+        (0..self.book.seats).for_each(|seat| self.fast_row(seat));
+    }
+
+    /// The next window is the first with room. A search that finds nothing closes its windows for the rest of the row.
+    fn fast_row(&mut self, seat: usize) {
+        self.held = self.held_by(seat);
+        let mut closed = 0;
+        for _ in 0..TURNS {
+            let open = self.rooms[seat] & !closed;
+            if open == 0 || self.held & (u32::MAX << lowest(open) << 1) == 0 {
+                return;
             }
+            closed |= self.raise(seat, lowest(open), MOST_CREDITS);
         }
     }
 

@@ -25,24 +25,25 @@ module _ (file : List ℕ) (accepted : NoneHolds (readLines file)) where
   abbrev n : ℕ
   n = plannedLength (bookOf file)
 
-  module _ (before after : List ℕ) (r : Written) (long : plannedLength (bookOf file) ≤ length before) (plans : Plans file before after r) where
-    free : firstOf (planLines file (length before)) ≡ none
-    unfolding planLines bufferLines line16
-    free =
-        on-after (readLines file) (bufferLines (length before) n) (none-first-of (readLines file) accepted)
-        ∙ rw (le-ltb (length before) n long) refl
+  module _ (before after : List ℕ) (r : Written) (long : plannedLength (bookOf file) ≤ length before) (plans : Plans file before after r)
+    where
+      free : firstOf (planLines file (length before)) ≡ none
+      unfolding planLines bufferLines line16
+      free =
+          on-after (readLines file) (bufferLines (length before) n) (none-first-of (readLines file) accepted)
+          ∙ rw (le-ltb (length before) n long) refl
 
-    whole : r ≡ Whole (plannedLength (bookOf file))
-    whole = let gives = tells-answer plans free in whole-of r n (gives .1 .0 ∙ ap answer (gives .1 .1 .0))
+      whole : r ≡ Whole (plannedLength (bookOf file))
+      whole = let gives = tells-answer plans free in whole-of r n (gives .1 .0 ∙ ap answer (gives .1 .1 .0))
 
-    -- the file with the book's standard sheet
-    standard-file : (s : Grid) → StandardSheet (bookOf file) s →
-        take (plannedLength (bookOf file)) after ≡ fileOf (bookOf file) (some s)
-    standard-file s h =
-        let p = subst (λ (x : Written). Plans file before after x) whole plans in
-        let here = planner.planned file before after (Whole n) p (planned-free file before after n p) in
-        the-planned file before after n p
-        ∙ ap (λ (g : Grid). fileOf (bookOf file) (some g)) (model.standard-one (bookOf file) (here .sheet) s (here .standard) h)
+      -- the file with the book's standard sheet
+      standard-file : (s : Grid) → StandardSheet (bookOf file) s →
+          take (plannedLength (bookOf file)) after ≡ fileOf (bookOf file) (some s)
+      standard-file s h =
+          let p = subst (λ (x : Written). Plans file before after x) whole plans in
+          let here = planner.planned file before after (Whole n) p (planned-free file before after n p) in
+          the-planned file before after n p
+          ∙ ap (λ (g : Grid). fileOf (bookOf file) (some g)) (model.standard-one (bookOf file) (here .sheet) s (here .standard) h)
 
   pub same-bytes : (before after before′ after′ : List ℕ) (r r′ : Written) →
       plannedLength (bookOf file) ≤ length before → plannedLength (bookOf file) ≤ length before′ →

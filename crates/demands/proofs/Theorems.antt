@@ -1,4 +1,5 @@
--- The three demands hold, and what is said of the better of two and of the standard sheet. The statements are in specs/Demands.antt; nothing is assumed.
+-- The three demands hold, and what is said of the better of two and of the standard sheet. The statements are in specs/Demands.antt; nothing
+-- is assumed.
 use Rattle.model.proofs.Theorems.{highest-list-exists, highest-lists-equal, standard-exists, standard-one}
 use Rattle.demands.specs.Demands.{Demand1, Demand2, Demand3, BetterOfTwo, OneStandardSheet}
 use Rattle.demands.proofs.Outcomes.{first}

@@ -34,6 +34,25 @@ pub fn passes(grid: &Caps, caps: &Caps, step: Move) -> u16
     lesser(grid[g][w], room(grid[t][w], caps[t][w]))
 }
 
+// A step within the arrays; where it is not, one from the giver to itself.
+pub fn step_within(window: usize, giver: usize, taker: usize) -> Move
+    requires { ⌜ giver < 32 ⌝ }
+    ensures { λ r. ⌜ (r .window < 24) × ((r .giver ≡ giver) × (r .taker < 32)) ⌝ }
+{
+    if window < 24 && taker < 32 {
+        return Move {
+            window,
+            giver,
+            taker,
+        };
+    }
+    Move {
+        window: 0,
+        giver,
+        taker: giver,
+    }
+}
+
 // How many seats and windows a grid has in use.
 pub struct Size {
     pub seats: usize,

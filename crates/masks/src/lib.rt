@@ -1,5 +1,6 @@
 // Sets of seats, as masks of 32 bits. The empty set is 0. No other crate names an operation on bits.
 ghost use mathlib.Core.Path.{_≡_};
+ghost use mathlib.Core.Bool.{true, false};
 ghost use Prim.Native.Nat.{ℕ, _-_, _≤_, _<_, min, max};
 ghost use lib.Dec.{eqb};
 ghost use Rattle.masks.specs.Sets.{bit, sizeOf, Inserted, Removed, Lowest, Full};
@@ -26,6 +27,17 @@ pub fn remove(set: u32, i: usize) -> u32
     ensures { λ r. ⌜ Removed set i r ⌝ }
 {
     set & !(1u32 << i)
+}
+
+// The set with seat i in it, or without it.
+pub fn with(set: u32, i: usize, on: bool) -> u32
+    requires { ⌜ i < 32 ⌝ }
+    ensures { λ r. ⌜ ((on ≡ true → Inserted set i r) × (on ≡ false → Removed set i r)) ⌝ }
+{
+    if on {
+        return insert(set, i);
+    }
+    remove(set, i)
 }
 
 pub fn union(a: u32, b: u32) -> u32

@@ -10,6 +10,7 @@ use fill::Size;
 use fill::lesser;
 use fill::passes;
 use fill::shift;
+use fill::step_within;
 use sheet::Caps;
 use sheet::Move;
 
@@ -24,21 +25,12 @@ fn step_of(links: &Links, giver: usize) -> Move
     ensures { λ r. ⌜ (r .window < 24) × ((r .giver ≡ giver) × (r .taker < 32)) ⌝ }
 {
     let window = wide(links[WINDOWS][giver]);
-    if window < 24 {
-        let taker = wide(links[TAKERS][window]);
-        if taker < 32 {
-            return Move {
-                window,
-                giver,
-                taker,
-            };
-        }
-    }
-    Move {
-        window: 0,
-        giver,
-        taker: giver,
-    }
+    let taker = if window < 32 {
+        wide(links[TAKERS][window])
+    } else {
+        32
+    };
+    step_within(window, giver, taker)
 }
 
 // As many credits as every step of the cycle lets through. It starts with the seat and ends where the seat takes.

@@ -12,13 +12,13 @@ use fill::Size;
 use links::HOLDERS;
 use links::Links;
 use links::ROOMS;
-use links::with;
 use masks::full;
 use masks::has;
 use masks::intersect;
 use masks::lowest;
 use masks::minus;
 use masks::union;
+use masks::with;
 use search::Cell;
 use sheet::Caps;
 

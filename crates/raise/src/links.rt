@@ -2,8 +2,7 @@
 ghost use Prim.Native.Nat.{_≤_, _<_};
 use fill::Size;
 use masks::has;
-use masks::insert;
-use masks::remove;
+use masks::with;
 use sheet::Caps;
 use sheet::Move;
 
@@ -18,13 +17,6 @@ pub(crate) const HOLDERS: usize = 1;
 pub(crate) const TAKERS: usize = 2;
 
 pub(crate) const WINDOWS: usize = 3;
-
-// The set with or without a number.
-pub(crate) fn with(set: u32, i: usize, on: bool) -> u32
-    requires { ⌜ i < 32 ⌝ }
-{
-    if on { insert(set, i) } else { remove(set, i) }
-}
 
 // Notes whether a seat is below its cap in a window, and whether it has a credit there.
 fn note(links: &mut Links, grid: &Caps, caps: &Caps, seat: usize, window: usize)

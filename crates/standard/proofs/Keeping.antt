@@ -1,11 +1,11 @@
 -- A pass that keeps what is filled filled, and each seat's total, leaves a settled grid settled. Assumes nothing.
-use mathlib.Core.Path.{_≡_, refl, sym, ap, _∙_}
+use mathlib.Core.Path.{_≡_, sym}
 use mathlib.Core.List.{List}
-use Prim.Native.Nat.{ℕ, min, _≤_, _<_}
+use Prim.Native.Nat.{ℕ, _<_}
 use native.Mathlib.Omega.{arith}
 use lib.ListN.{getD}
 use Rattle.fairness.specs.Sums.{sum}
-use Rattle.fairness.specs.Instance.{Feasible, placed, total}
+use Rattle.fairness.specs.Instance.{Feasible, placed}
 use Rattle.fairness.specs.Leximin.{table}
 use Rattle.fairness.specs.Exchange.{Settled}
 use Rattle.fairness.proofs.Sums.{sum-le}

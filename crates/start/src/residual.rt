@@ -2,8 +2,7 @@
 ghost use Prim.Native.Nat.{_≤_, _<_};
 use fill::room;
 use instance::Terms;
-use masks::insert;
-use masks::remove;
+use masks::with;
 use sheet::Caps;
 use sheet::Move;
 
@@ -26,17 +25,6 @@ pub(crate) struct Phase {
     pub seats: usize,
     pub windows: usize,
     pub unit: u16,
-}
-
-// The set with or without a seat.
-fn with(set: u32, seat: usize, on: bool) -> u32
-    requires { ⌜ seat < 32 ⌝ }
-{
-    if on {
-        insert(set, seat)
-    } else {
-        remove(set, seat)
-    }
 }
 
 // Notes whether a seat can take and whether it can give in a window.

@@ -4,6 +4,7 @@ ghost use Prim.Native.Nat.{_≤_, _<_};
 use crate::residual::GIVERS;
 use crate::residual::Residual;
 use crate::residual::TAKERS;
+use fill::step_within;
 use masks::full;
 use masks::insert;
 use masks::intersect;
@@ -95,17 +96,6 @@ impl Tree {
     {
         let window = self.windows[giver] as usize;
         let taker = self.takers[giver] as usize;
-        if window < 24 && taker < 32 {
-            return Move {
-                window,
-                giver,
-                taker,
-            };
-        }
-        Move {
-            window: 0,
-            giver,
-            taker: giver,
-        }
+        step_within(window, giver, taker)
     }
 }

@@ -8,7 +8,7 @@ use native.Mathlib.Omega.{arith}
 use lib.ListN.{getD, replicate}
 use Rattle.lists.proofs.Arrays.{zeros-at}
 use Rattle.fairness.specs.Instance.{Instance, Sheet}
-use Rattle.fairness.specs.Raising.{Blocked, ClosedFrom, Holds, Beyond}
+use Rattle.fairness.specs.Raising.{ClosedFrom, Holds, Beyond}
 use Rattle.fairness.proofs.Standard.{closed-start, closed-step, closed-from-blocked}
 use Rattle.reach.specs.Graphs.{setAt, Collects, Through}
 use Rattle.topmost.specs.Sweep.{Leads, Share, Clear, Grows, BlockedIn, BlockedFrom}

@@ -2,7 +2,7 @@
 use borrow.Author.Needs.{needs}
 use Rattle.model.specs.Book.{cell}
 use Rattle.instance.proofs.Told.{small-proper, shows-itself, shown-standard}
-use Rattle.topmost.proofs.Theorems.{blocked-standard}
+use Rattle.topmost.proofs.Theorems.{all-blocked-standard}
 use Rattle.standard.proofs.standard_from.Statement.{statement}
 use Rattle.standard.proofs.standard_from.Tie as tie
 
@@ -15,7 +15,7 @@ returns c =
     let caps = b .args .caps .now in
     let grid = pass .raised .result in
     let blocked = sweep .all-blocked .ensures (c .if1 .taken) in
-    let standard = blocked-standard _ _ (small-proper t caps (b .pre .0)) (pass .raised .ensures) blocked in
+    let standard = all-blocked-standard _ _ (small-proper t caps (b .pre .0)) (pass .raised .ensures) blocked in
     λ I told. shown-standard t caps I told (cell grid) grid (shows-itself t grid) standard
 
 returns-2 : tie.Need-returns-2
