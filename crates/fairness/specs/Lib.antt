@@ -6,6 +6,9 @@ pub mod Leximin
 pub mod Exchange
 pub mod Layers
 pub mod Cuts
+-- paper 02's standard sheet; its theorems are in proofs/Standard.antt
 pub mod Standard
+-- for the proofs of the code that makes it
 pub mod Raising
+-- for the functions of src/
 pub mod Numbers
