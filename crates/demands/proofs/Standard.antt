@@ -45,12 +45,12 @@ module _ (file : List ℕ) (accepted : NoneHolds (readLines file)) where
           the-planned file before after n p
           ∙ ap (λ (g : Grid). fileOf (bookOf file) (some g)) (model.standard-one (bookOf file) (here .sheet) s (here .standard) h)
 
-  pub same-bytes : (before after before′ after′ : List ℕ) (r r′ : Written) →
+  pub same-plan : (before after before′ after′ : List ℕ) (r r′ : Written) →
       plannedLength (bookOf file) ≤ length before → plannedLength (bookOf file) ≤ length before′ →
       Plans file before after r → Plans file before′ after′ r′ →
       (r ≡ Whole (plannedLength (bookOf file))) × ((r′ ≡ r)
       × (take (plannedLength (bookOf file)) after ≡ take (plannedLength (bookOf file)) after′))
-  same-bytes before after before′ after′ r r′ long long′ plans plans′ =
+  same-plan before after before′ after′ r r′ long long′ plans plans′ =
       let s = model.standard-exists (bookOf file) in
       let first = whole before after r long plans in (
         first,

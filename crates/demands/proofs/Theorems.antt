@@ -1,5 +1,5 @@
--- The three demands hold, and what is said of the better of two and of the standard sheet. The statements are in specs/Demands.antt; nothing
--- is assumed.
+-- The three demands hold, and so does what is said of the better of two and of the standard sheet. The statements are in
+-- specs/Demands.antt; nothing is assumed.
 use Rattle.model.proofs.Theorems.{highest-list-exists, highest-lists-equal, standard-exists, standard-one}
 use Rattle.demands.specs.Demands.{Demand1, Demand2, Demand3, BetterOfTwo, OneStandardSheet}
 use Rattle.demands.proofs.Outcomes.{first}
@@ -42,4 +42,4 @@ better-of-two = record { inside = inside; same-sheet = same-sheet; not-lower = n
 
 -- a book has one standard sheet, and what the planner writes is the same, whatever the buffer
 pub one-standard-sheet : OneStandardSheet
-one-standard-sheet = record { there = standard-exists; no-other = standard-one; same-bytes = standard.same-bytes }
+one-standard-sheet = record { there = standard-exists; no-other = standard-one; same-plan = standard.same-plan }

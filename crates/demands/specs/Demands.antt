@@ -131,7 +131,7 @@ pub record Demand3 : Type 0 where
   pub fails : (file : List ℕ) (b : Book) (s : Grid) (before after : List ℕ) (r : Marking) → Marked file b s before after r →
       (Passing (told r) → ⊥) → (Wasteful (instanceOf b) (cell s) → ⊥) →
       (n : ℕ) × ((told r ≡ answer (record { mark = 2; window = 0; seat = 0; moves = n })) × Improves b s n after)
-  -- what the planner wrote is the file's own book with the fairest sheet
+  -- what the planner wrote is the file's own book with its standard sheet
   pub planned : (file before after : List ℕ) (n : ℕ) → Plans file before after (Whole n) → PlannedFile (bookOf file) n after
   -- and the marker, given that file and any buffer that is long enough, answers mark 4
   pub planned-passes : (file before after : List ℕ) (n : ℕ) → Plans file before after (Whole n) →
@@ -167,7 +167,7 @@ pub record OneStandardSheet : Type 0 where
   pub there : (b : Book) → (s : Grid) × StandardSheet b s
   pub no-other : (b : Book) (s t : Grid) → StandardSheet b s → StandardSheet b t → s ≡ t
   -- of an accepted file the planner writes the same bytes to any two buffers that are long enough
-  pub same-bytes : (file : List ℕ) → NoneHolds (readLines file) → (before after before′ after′ : List ℕ) (r r′ : Written) →
+  pub same-plan : (file : List ℕ) → NoneHolds (readLines file) → (before after before′ after′ : List ℕ) (r r′ : Written) →
       plannedLength (bookOf file) ≤ length before → plannedLength (bookOf file) ≤ length before′ →
       Plans file before after r → Plans file before′ after′ r′ →
       (r ≡ Whole (plannedLength (bookOf file))) × ((r′ ≡ r)

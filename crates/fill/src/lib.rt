@@ -34,7 +34,7 @@ pub fn passes(grid: &Caps, caps: &Caps, step: Move) -> u16
     lesser(grid[g][w], room(grid[t][w], caps[t][w]))
 }
 
-// A step within the arrays; where it is not, one from the giver to itself.
+// The step with this window and these seats; if one of them is outside the arrays, a step from the giver to itself.
 pub fn step_within(window: usize, giver: usize, taker: usize) -> Move
     requires { ⌜ giver < 32 ⌝ }
     ensures { λ r. ⌜ (r .window < 24) × ((r .giver ≡ giver) × (r .taker < 32)) ⌝ }

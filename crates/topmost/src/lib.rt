@@ -70,7 +70,7 @@ fn grown(sets: [u32; 24], rooms: u32, holds: u32, windows: usize) -> [u32; 24]
     all
 }
 
-// Whether sets of windows show that no cell can be raised. They do not where a cell can be raised.
+// Whether sets of windows show that no cell can be raised. Where one can be raised, they do not.
 pub fn all_blocked(grid: &Caps, caps: &Caps, t: Terms) -> bool
     requires { ⌜ (t .seats ≤ 32) × (t .windows ≤ 24) ⌝ }
     ensures { λ r. ⌜ (r ≡ true → AllBlocked (instanceIn t (now (caps .entry))) (cell (now (grid .entry)))) ⌝ }
