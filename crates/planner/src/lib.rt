@@ -15,8 +15,9 @@ fn planned_sheet(book: Book, caps: Caps) -> Caps
     ensures { λ r. ⌜ Standard (instanceOf (bookIn book caps)) (cell r) ⌝ }
 {
     let terms = instance::terms_of(book);
-    let settled = engine::settled(terms, &caps);
-    standard::standard_from(settled, terms, &caps)
+    let mut sheet = engine::settled(terms, &caps);
+    standard::make_standard(&mut sheet, &caps, terms);
+    sheet
 }
 
 // The planned file at the front of the buffer, or the refusal.

@@ -6,7 +6,7 @@ ghost use Rattle.fairness.specs.Sums.{sum};
 ghost use Rattle.fairness.specs.Instance.{Instance};
 ghost use Rattle.fairness.specs.Exchange.{Settled};
 ghost use Rattle.fairness.specs.Standard.{Standard};
-ghost use Rattle.model.specs.Book.{cell};
+ghost use Rattle.model.specs.Book.{cell, Shaped};
 ghost use Rattle.instance.specs.Terms.{instanceIn, Told, Small};
 use climb::climb;
 use fill::Size;
@@ -31,35 +31,36 @@ fn same_totals(a: &Caps, b: &Caps, size: Size) -> bool
     true
 }
 
-// The grid after the fast pass, if it is settled still: the pass keeps each window's sum, so it is where it kept the seats' totals. If not,
-// the grid as it was.
-fn raised(settled: Caps, t: Terms, caps: &Caps) -> Caps
+// The fast pass over a grid, taken back unless it is settled still: the pass keeps each window's sum, so it is where it kept the seats'
+// totals.
+fn raise_settled(grid: &mut Caps, caps: &Caps, t: Terms)
     requires { ⌜ Small t (now caps) ⌝ }
-    requires { ⌜ Settled (instanceIn t (now caps)) (cell settled) ⌝ }
-    ensures { λ r. ⌜ Settled (instanceIn t (now (caps .entry))) (cell r) ⌝ }
+    requires { ⌜ Shaped 32 24 (now grid) ⌝ }
+    requires { ⌜ Settled (instanceIn t (now caps)) (cell (now grid)) ⌝ }
+    ensures { λ _. ⌜ Settled (instanceIn t (now (caps .entry))) (cell (now (grid .exit))) ⌝ }
 {
     let size = Size {
         seats: t.seats,
         windows: t.windows,
     };
-    let mut grid = settled;
-    raise(&mut grid, caps, size);
-    if same_totals(&settled, &grid, size) {
-        return grid;
+    let settled = *grid;
+    raise(grid, caps, size);
+    if same_totals(&settled, grid, size) {
+        return;
     }
-    settled
+    *grid = settled;
 }
 
-// The standard grid, from any settled one of these terms.
-pub fn standard_from(settled: Caps, t: Terms, caps: &Caps) -> Caps
+// Makes a settled grid the standard one.
+pub fn make_standard(grid: &mut Caps, caps: &Caps, t: Terms)
     requires { ⌜ Small t (now caps) ⌝ }
-    requires { ⌜ Settled (instanceIn t (now caps)) (cell settled) ⌝ }
-    ensures { λ r. ⌜ ((I : Instance) → Told I t (now (caps .entry)) → Standard I (cell r)) ⌝ }
+    requires { ⌜ Shaped 32 24 (now grid) ⌝ }
+    requires { ⌜ Settled (instanceIn t (now caps)) (cell (now grid)) ⌝ }
+    ensures { λ _. ⌜ ((I : Instance) → Told I t (now (caps .entry)) → Standard I (cell (now (grid .exit)))) ⌝ }
 {
-    let mut grid = raised(settled, t, caps);
-    if all_blocked(&grid, caps, t) {
-        return grid;
+    raise_settled(grid, caps, t);
+    if all_blocked(grid, caps, t) {
+        return;
     }
-    climb(&mut grid, caps, t);
-    grid
+    climb(grid, caps, t);
 }

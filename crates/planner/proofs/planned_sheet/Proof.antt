@@ -1,6 +1,7 @@
 -- `planner::planned_sheet` meets its contract: what the engine settles, made the standard sheet.
 use Rattle.instance.specs.Terms.{Small}
 use Rattle.instance.proofs.Told.{told-in, small-told}
+use Rattle.sheet.proofs.Shapes.{is-grid}
 use Rattle.planner.proofs.planned_sheet.Statement.{statement}
 use Rattle.planner.proofs.planned_sheet.Tie as tie
 
@@ -14,13 +15,17 @@ small c =
 settled-requires : tie.Need-settled-requires
 settled-requires c κs = small (c .before)
 
-standard-from-requires : tie.Need-standard-from-requires
-standard-from-requires c κs =
-    let t = c .before .before .before in
-    (small t, c .before .settled .ensures _ (told-in (t .terms-of .result) (t .before .args .t2)))
+make-standard-requires : tie.Need-make-standard-requires
+make-standard-requires c κs =
+    let made = c .before .before in
+    let t = made .before .before in
+    let settled = made .settled .ensures _ (told-in (t .terms-of .result) (t .before .args .t2)) in
+    (small t, (is-grid _ _ (made .settled .ok) .shape, settled))
 
 returns : tie.Need-returns
-returns c = let t = c .before .before .before .before in c .standard-from .ensures _ (t .terms-of .ensures .1 (t .before .args .t2))
+returns c =
+    let t = c .before .before .before .before .before in
+    c .make-standard .ensures _ (t .terms-of .ensures .1 (t .before .args .t2))
 
 pub planned-sheet-spec : {M : Type 1} → statement M
-planned-sheet-spec = tie.close (tie.spec (λ c κs. (_, c .pre)) settled-requires standard-from-requires returns)
+planned-sheet-spec = tie.close (tie.spec (λ c κs. (_, c .pre)) settled-requires make-standard-requires returns)
