@@ -17,7 +17,7 @@ import subprocess
 import sys
 
 HERE = pathlib.Path(__file__).resolve().parent
-PARTS = ["classes", "supplies", "caps", "sheet", "first"]  # kinds 1 to 5; a text may leave out the last two
+PARTS = ["classes", "supplies", "caps", "sheet", "first", "balances"]  # kinds 1 to 6; a text may leave out the last three
 
 
 def parse(text):
