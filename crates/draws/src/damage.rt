@@ -60,21 +60,21 @@ fn put_entry(file: &mut [u8], at: usize, kind: u8, start: u8, size: u8)
     set(file, at + 4, size);
 }
 
-// The kind of an entry: after kind 3 any of 4, 5 and 6, so that some do not rise and some are unknown.
+// The kind of an entry: after kind 3 any of 4 to 7, so that some do not rise and some are unknown.
 fn draw_kind(state: &mut u32, e: u8) -> u8
-    requires { ⌜ e < 5 ⌝ }
+    requires { ⌜ e < 6 ⌝ }
 {
     if e < 3 {
         e + 1
     } else {
-        4 + below(state, 3) as u8
+        4 + below(state, 4) as u8
     }
 }
 
 // Contents whose starts are right, with bodies of any length below 6; the offset where the last body ends.
 fn draw_contents(state: &mut u32, file: &mut [u8], entries: u8) -> u8
-    requires { ⌜ entries ≤ 5 ⌝ }
-    ensures { λ r. ⌜ r ≤ 57 ⌝ }
+    requires { ⌜ entries ≤ 6 ⌝ }
+    ensures { λ r. ⌜ r ≤ 68 ⌝ }
 {
     set(file, 0, entries);
     let mut end = 2 + 6 * entries;
@@ -96,7 +96,7 @@ fn draw_bodies(state: &mut u32, file: &mut [u8], from: usize, to: usize) {
 
 // A file made up of contents and any small bodies.
 fn draw_made(state: &mut u32, file: &mut [u8]) -> usize {
-    let entries = 3 + below(state, 3) as u8;
+    let entries = 3 + below(state, 4) as u8;
     let end = draw_contents(state, file, entries) as usize;
     draw_bodies(state, file, 2 + 6 * entries as usize, end);
     end
@@ -113,23 +113,30 @@ fn change(state: &mut u32, file: &mut [u8], from: usize, length: usize, n: u32)
 }
 
 fn longer(length: usize) -> usize {
-    if length < 100 { length + 1 } else { length }
+    if length < 120 { length + 1 } else { length }
 }
 
-// The last body gets any length below 6, and the file ends where it does: else line 6 would hide what its length means. The contents end
+// The last body gets any length below 10, and the file ends where it does: else line 6 would hide what its length means. The contents end
 // with that length, two bytes of which the high one is 0.
 fn resize(state: &mut u32, file: &mut [u8], length: usize) -> usize {
     let at = 6 * byte(file, 0) as usize;
-    let size = offset(state, 6);
+    let size = offset(state, 10);
     let ahead = std::num::wrapping_sub_usize(length, byte(file, at) as usize);
     set(file, at, size as u8);
     std::num::wrapping_add_usize(ahead, size)
 }
 
+// The last field gets a number about that of the largest balance.
+fn enlarge(state: &mut u32, file: &mut [u8], length: usize) {
+    let x = 49998 + up_to(state, 4);
+    set(file, std::num::wrapping_sub_usize(length, 2), (x % 256) as u8);
+    set(file, std::num::wrapping_sub_usize(length, 1), (x / 256) as u8);
+}
+
 // A file that is left as it is, cut, longer by a byte, or has a byte changed: anywhere, in the contents, in the bodies, or in the last
-// field; or its last body has another length. Its length.
+// field; or its last field is large, or its last body has another length. Its length.
 fn damage(state: &mut u32, file: &mut [u8], length: usize) -> usize {
-    let way = below(state, 8);
+    let way = below(state, 9);
     match way {
         0 => length,
         1 => offset(state, length),
@@ -139,7 +146,7 @@ fn damage(state: &mut u32, file: &mut [u8], length: usize) -> usize {
             length
         }
         4 => {
-            change(state, file, 0, 32, 8);
+            change(state, file, 0, 38, 8);
             length
         }
         5 => {
@@ -154,6 +161,10 @@ fn damage(state: &mut u32, file: &mut [u8], length: usize) -> usize {
                 length,
                 6,
             );
+            length
+        }
+        7 => {
+            enlarge(state, file, length);
             length
         }
         _ => resize(state, file, length),
@@ -187,7 +198,7 @@ pub fn draw_hand_in(state: &mut u32, file: &mut [u8], s: Small) -> usize {
 // A book of a small one's numbers, in which one of them may be out of its range.
 fn damage_book(state: &mut u32, s: Small) -> Book {
     let mut book = book_of(s);
-    let way = below(state, 6);
+    let way = below(state, 7);
     match way {
         0 => {
             book.seats = offset(state, 40);
@@ -206,6 +217,11 @@ fn damage_book(state: &mut u32, s: Small) -> Book {
         4 => {
             book.has_first = below(state, 4) != 0;
             book.first = up_to(state, 5) + 256 * up_to(state, 1);
+        }
+        5 => {
+            let i = below(state, 4) as usize;
+            book.has_balances = below(state, 4) != 0;
+            book.balances[i] = 49999 + up_to(state, 3);
         }
         _ => {}
     }

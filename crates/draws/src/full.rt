@@ -1,8 +1,8 @@
 // Random books of 32 seats and 24 windows.
 use crate::below;
 use crate::draw_cap;
-use crate::draw_classes;
 use crate::draw_row;
+use crate::draw_seats;
 use dayfile::Book;
 use dayfile::Day;
 use sheet::Caps;
@@ -28,11 +28,28 @@ fn draw_most(state: &mut u32) -> u16 {
     }
 }
 
-// The book, but for its caps, with supplies that are about what such caps ask for, or less. In a third of the books no first seat is named.
+// The balances: any, all 0, or about what a seat gets in a book of such supplies. Where there are none, the numbers are 0 too.
+fn draw_balances(state: &mut u32, supply: u16, there: bool) -> [u16; 32] {
+    if !there {
+        return [0u16; 32];
+    }
+    let size = below(state, 4);
+    match size {
+        0 => draw_seats(state, 32, 0, 50000),
+        1 => [0u16; 32],
+        _ => draw_seats(state, 32, 0, supply),
+    }
+}
+
+// The book, but for its caps, with supplies that are about what such caps ask for, or less. In a third of the books no first seat is named,
+// and a third has no balances.
 fn draw_book(state: &mut u32, most: u16) -> Book {
-    let classes = draw_classes(state, 32, 7);
-    let supplies = draw_row(state, 24, if most < 256 { 16 * most } else { 4095 }, false);
+    let classes = draw_seats(state, 32, 1, 7);
+    let supply = if most < 256 { 16 * most } else { 4095 };
+    let supplies = draw_row(state, 24, supply, false);
     let first = draw_cap(state, 32, true);
+    let has_balances = below(state, 3) != 0;
+    let balances = draw_balances(state, supply, has_balances);
     Book {
         seats: 32,
         windows: 24,
@@ -40,6 +57,8 @@ fn draw_book(state: &mut u32, most: u16) -> Book {
         supplies,
         has_first: first != 0,
         first,
+        has_balances,
+        balances,
     }
 }
 

@@ -1,5 +1,5 @@
 // Random numbers, the same in every run: the next is 1,664,525 times the one before plus 1,013,904,223, remainder on 2^32.
-ghost use Prim.Native.Nat.{_≤_, _<_};
+ghost use Prim.Native.Nat.{_+_, _≤_, _<_};
 use dayfile::Day;
 use dayfile::Written;
 use oracle::Small;
@@ -43,15 +43,15 @@ pub fn offset(state: &mut u32, n: usize) -> usize
     below(state, n as u32) as usize
 }
 
-// The classes of n seats, 1 to `most` and one more.
-fn draw_classes(state: &mut u32, n: usize, most: u16) -> [u16; 32]
-    requires { ⌜ (n ≤ 32) × (most ≤ 7) ⌝ }
+// The numbers of n seats, classes or balances: each at least `low` and at most so many more.
+fn draw_seats(state: &mut u32, n: usize, low: u16, more: u16) -> [u16; 32]
+    requires { ⌜ (n ≤ 32) × (low + more ≤ 65535) ⌝ }
 {
-    let mut classes = [0u16; 32];
+    let mut numbers = [0u16; 32];
     for i in 0..n {
-        classes[i] = 1 + up_to(state, most);
+        numbers[i] = low + up_to(state, more);
     }
-    classes
+    numbers
 }
 
 // A number that is at most `most`, or 0 with no draw.

@@ -1,8 +1,9 @@
 // Random small books.
+ghost use Prim.Native.Nat.{_≤_, _<_};
 use crate::below;
-use crate::draw_classes;
 use crate::draw_if;
 use crate::draw_row;
+use crate::draw_seats;
 use crate::up_to;
 use oracle::Small;
 
@@ -14,16 +15,41 @@ pub fn draw_cells(state: &mut u32, seats: usize, windows: usize, most: u16) -> [
     cells
 }
 
-// Often of a few classes only, so that there are ties. Any seat is the first, seat 1 too, or none is named.
+// Balances: small ones, so that they and the credits of a sheet decide together; the same close to the largest that there can be; any;
+// small ones but for one seat with any; all 0. Where there are none, the numbers are 0 too.
+fn draw_balances(state: &mut u32, seats: usize, there: bool) -> [u16; 32]
+    requires { ⌜ (0 < seats) × (seats ≤ 4) ⌝ }
+{
+    if !there {
+        return [0u16; 32];
+    }
+    let way = below(state, 8);
+    match way {
+        0 => draw_seats(state, seats, 49996, 4),
+        1 => draw_seats(state, seats, 0, 50000),
+        2 => {
+            let mut balances = draw_seats(state, seats, 0, 4);
+            let i = below(state, seats as u32) as usize;
+            balances[i] = up_to(state, 50000);
+            balances
+        }
+        3 => [0u16; 32],
+        _ => draw_seats(state, seats, 0, 4),
+    }
+}
+
+// Often of a few classes only, so that there are ties. Any seat is the first, seat 1 too, or none is named. A third has no balances.
 pub fn draw_small(state: &mut u32) -> Small {
     let seats = 1 + below(state, 4) as usize;
     let windows = 1 + below(state, 3) as usize;
     let few = up_to(state, 7);
-    let classes = draw_classes(state, 4, few);
+    let classes = draw_seats(state, 4, 1, few);
     let supplies = draw_row(state, windows, 4, false);
     let most = 1 + up_to(state, 2);
     let caps = draw_cells(state, seats, windows, most);
     let first = up_to(state, seats as u16);
+    let has_balances = below(state, 3) != 0;
+    let balances = draw_balances(state, seats, has_balances);
     Small {
         seats,
         windows,
@@ -31,14 +57,34 @@ pub fn draw_small(state: &mut u32) -> Small {
         supplies,
         caps,
         first,
+        has_balances,
+        balances,
     }
 }
 
-// Mostly the same book again, on a day when seat 1 is named as the first, or none is.
+// The same book without its balances.
+pub fn without_balances(mut s: Small) -> Small {
+    s.has_balances = false;
+    s.balances = [0u16; 32];
+    s
+}
+
+// Mostly the same book again, on a day when seat 1 is named as the first, or none is. In some of these it has no balances, or one of them
+// is 0 or 1.
 pub fn draw_other(state: &mut u32, mut s: Small) -> Small {
     if below(state, 8) == 0 {
         return draw_small(state);
     }
     s.first = up_to(state, 1);
-    s
+    let way = below(state, 4);
+    match way {
+        0 => without_balances(s),
+        1 => {
+            let i = below(state, 4) as usize;
+            s.has_balances = true;
+            s.balances[i] = up_to(state, 1);
+            s
+        }
+        _ => s,
+    }
 }

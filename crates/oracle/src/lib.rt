@@ -1,7 +1,8 @@
 // A test oracle: the papers' rules for small books, anew and in the plainest way. It shares no code with what it is held against.
 //
 // A book has up to 4 seats and 3 windows, a sheet 12 cells, 3 for each seat. Outside the book cells, caps and supplies are 0. Where no seat
-// is named as the first, `first` is 0: no file that is taken holds a seat 0.
+// is named as the first, `first` is 0: no file that is taken holds a seat 0. Balances that are all 0 can stand in a file or be missing, so
+// `has_balances` says which; where they are missing, the numbers are 0.
 pub mod marks;
 pub mod memory;
 pub mod numbers;
@@ -16,6 +17,8 @@ pub struct Small {
     pub supplies: [u16; 24],
     pub caps: [u16; 12],
     pub first: u16,
+    pub has_balances: bool,
+    pub balances: [u16; 32],
 }
 
 // One more, or 0 again above the cap.

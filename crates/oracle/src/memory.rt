@@ -8,6 +8,7 @@ use sheet::Caps;
 pub fn book_of(s: Small) -> Book {
     let classes = s.classes;
     let supplies = s.supplies;
+    let balances = s.balances;
     Book {
         seats: s.seats,
         windows: s.windows,
@@ -15,6 +16,8 @@ pub fn book_of(s: Small) -> Book {
         supplies,
         has_first: s.first != 0,
         first: s.first,
+        has_balances: s.has_balances,
+        balances,
     }
 }
 
@@ -45,6 +48,7 @@ pub fn small_of(day: Day) -> Small {
     let book = day.book;
     let classes = book.classes;
     let supplies = book.supplies;
+    let balances = book.balances;
     Small {
         seats: book.seats,
         windows: book.windows,
@@ -52,5 +56,7 @@ pub fn small_of(day: Day) -> Small {
         supplies,
         caps: cells_of(day.caps.to_grid()),
         first: book.first,
+        has_balances: book.has_balances,
+        balances,
     }
 }

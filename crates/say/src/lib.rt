@@ -116,8 +116,11 @@ pub fn all_from(bytes: &[u8], at: usize, value: u8) -> bool {
     true
 }
 
-// The counts of a report: three for each of 19 numbers, and behind them how much was wrong.
-pub const COUNTS: usize = 58;
+// The numbers from 0 on that a report has a line for.
+pub const ROWS: usize = 20;
+
+// The counts of a report: three for each of these numbers, and behind them how much was wrong.
+pub const COUNTS: usize = 3 * ROWS + 1;
 
 fn say_count(name: &[u8], n: u32) {
     say_text(name);
@@ -126,7 +129,7 @@ fn say_count(name: &[u8], n: u32) {
 
 // The line of a number; none where its three counts are 0.
 fn say_row(counts: &[u32; COUNTS], row: usize)
-    requires { ⌜ row < 19 ⌝ }
+    requires { ⌜ row < 20 ⌝ }
 {
     let a = counts[3 * row];
     let b = counts[3 * row + 1];
@@ -145,9 +148,9 @@ fn say_row(counts: &[u32; COUNTS], row: usize)
 // What was counted, with a line ahead that says of what.
 pub fn say_report(title: &[u8], counts: &[u32; COUNTS]) {
     say_text(title);
-    for row in 0..19usize {
+    for row in 0..ROWS {
         say_row(counts, row);
     }
-    say_count(b"  wrong: ", counts[57]);
+    say_count(b"  wrong: ", counts[COUNTS - 1]);
     say_text(b"\n");
 }

@@ -4,6 +4,7 @@ use crate::calls::plan_day;
 use crate::calls::see_file;
 use crate::tally::Tally;
 use crate::tally::count;
+use crate::tally::count_if;
 use dayfile::LONGEST_FILE;
 use draws::full::draw_full;
 use say::front;
@@ -20,6 +21,9 @@ fn rightly_planned(file: &[u8]) -> bool {
 // A random book of 32 seats and 24 windows.
 pub fn judge(state: &mut u32, tally: Tally) -> Tally {
     let mut out = [255u8; PLAN_ROOM];
-    let end = plan_day(draw_full(state), &mut out);
-    count(tally, 0, 0, rightly_planned(front(&out, end)))
+    let day = draw_full(state);
+    let book = day.book;
+    let end = plan_day(day, &mut out);
+    let seen = count_if(tally, book.has_balances, 0, 1);
+    count(seen, 0, 0, rightly_planned(front(&out, end)))
 }

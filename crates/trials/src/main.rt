@@ -43,7 +43,8 @@ fn main() {
         Kind::Small,
         40000,
         &mut state,
-        b"small books, by number: sheets with this mark, with so many moves, books planned (1: with one settled sheet, 2: with several)\n",
+        b"small books, by number: sheets with this mark, with so many moves, books planned (1: with one settled sheet, 2: with several,
+  3: with balances, 4: with balances that change the plan)\n",
     );
     run(
         Kind::Damaged,
@@ -55,12 +56,13 @@ fn main() {
         Kind::Full,
         300,
         &mut state,
-        b"full-size books: planned and marked (0)\n",
+        b"full-size books: planned and marked (0: all, 1: with balances)\n",
     );
     run(
         Kind::Pair,
         20000,
         &mut state,
-        b"pairs of hand-ins, by line: neither's (1: different files with equal lists), the first's, the second's (0: chosen)\n",
+        b"pairs of hand-ins, by line: neither's (1: different files with equal lists, 2: one book, and balances in one file only,
+  3: two books by their balances alone), the first's, the second's (0: chosen)\n",
     );
 }

@@ -3,6 +3,7 @@ use crate::calls::mark;
 use crate::calls::mark_of;
 use crate::tally::Tally;
 use crate::tally::count;
+use crate::tally::count_if;
 use better::body_span;
 use better::choose;
 use choice::BetterResult;
@@ -27,11 +28,41 @@ fn book_in(file: &[u8]) -> &[u8] {
     numbers::bytes(file, start / 2, std::num::wrapping_sub_usize(end, start))
 }
 
-// Line 17 does not hold: these bodies are the same, and so are the numbers of seats and windows, by the lengths of the first two.
-fn one_book(first: &[u8], second: &[u8]) -> bool {
+// Whether these bodies are the same, and so are the numbers of seats and windows, by the lengths of the first two.
+fn same_bodies(first: &[u8], second: &[u8]) -> bool {
     (byte(first, 6) == byte(second, 6))
         & (byte(first, 12) == byte(second, 12))
         & check::same(book_in(first), book_in(second))
+}
+
+// The body of kind 6, no byte where there is none. Its entry is the last one, and that ends with the length, a field in the two bytes from 6
+// times the number of entries on.
+fn balances_in(file: &[u8]) -> &[u8] {
+    let last = 6 * byte(file, 0) as usize;
+    let kind = byte(file, std::num::wrapping_sub_usize(last, 4));
+    let start = byte(file, std::num::wrapping_sub_usize(last, 2)) as usize;
+    let length = if kind == 6 { byte(file, last) } else { 0 };
+    numbers::bytes(file, start / 2, length as usize)
+}
+
+// Whether each seat's balance is the same, 0 where the file has none.
+fn same_balances(first: &[u8], second: &[u8]) -> bool {
+    for i in 0..4usize {
+        if numbers::at(first, i) != numbers::at(second, i) {
+            return false;
+        }
+    }
+    true
+}
+
+// Line 17 does not hold.
+fn one_book(first: &[u8], second: &[u8]) -> bool {
+    same_bodies(first, second) & same_balances(balances_in(first), balances_in(second))
+}
+
+// Whether one of two files has balances and the other has none.
+fn in_one_only(first: &[u8], second: &[u8]) -> bool {
+    (balances_in(first).len() == 0) != (balances_in(second).len() == 0)
 }
 
 fn rank_in(file: &[u8]) -> [u64; 8] {
@@ -115,15 +146,18 @@ fn put_played(file: &[u8], out: &mut [u8]) -> usize {
     put_small(out, s, true, cells)
 }
 
-// Two files in both orders. Equal lists, where the first of two sheets is chosen in either order, are counted as line 1 of neither.
+// Two files in both orders. What else they show is counted as lines 1 to 3 of neither: equal lists, where the first of two sheets is chosen
+// in either order; one book, though one file has balances, all of them 0, and the other none; and two books that differ in balances alone.
 fn judge_both<'a>(tally: Tally, first: &'a [u8], second: &'a [u8]) -> Tally {
     let seen = judge_pair(judge_pair(tally, first, second), second, first);
     let a = answered(first, second);
     let b = answered(second, first);
-    if (a.refusal == 0) & (a.file == b.file) & !check::same(first, second) {
-        return count(seen, 0, 1, true);
-    }
-    seen
+    let chosen = a.refusal == 0;
+    let equal = chosen & (a.file == b.file) & !check::same(first, second);
+    let seen = count_if(seen, equal, 0, 1);
+    let seen = count_if(seen, chosen & in_one_only(first, second), 0, 2);
+    let apart = (a.refusal == 17) & same_bodies(first, second);
+    count_if(seen, apart, 0, 3)
 }
 
 // A hand-in against another, mostly of the same book, and against itself after the marker's moves.

@@ -27,7 +27,8 @@ pub fn second_in(numbers: &[u8]) -> &[u8] {
     numbers::bytes(numbers, place + 1, length)
 }
 
-// A book in memory: whether it has a sheet, seats, windows, classes, supplies, caps, sheet, whether a first seat is named, and that seat.
+// A book in memory: whether it has a sheet, seats, windows, classes, supplies, caps, sheet, whether a first seat is named, that seat, whether
+// there are balances, and these.
 pub fn day_in(numbers: &[u8]) -> Day {
     let seats = numbers::wide(numbers, 2);
     let windows = numbers::wide(numbers, 3);
@@ -39,6 +40,8 @@ pub fn day_in(numbers: &[u8]) -> Day {
     let caps = numbers::grid(numbers, 4 + seats + windows, windows);
     let sheet = numbers::grid(numbers, 4 + seats + windows + cells, windows);
     let after = 4 + seats + windows + 2 * cells;
+    let mut balances = [0u16; 32];
+    numbers::fill(numbers, after + 3, &mut balances);
     let book = Book {
         seats,
         windows,
@@ -46,6 +49,8 @@ pub fn day_in(numbers: &[u8]) -> Day {
         supplies,
         has_first: numbers::at(numbers, after) == 1,
         first: numbers::at(numbers, after + 1),
+        has_balances: numbers::at(numbers, after + 2) == 1,
+        balances,
     };
     Day::new(book, caps, numbers::at(numbers, 1) == 1, sheet)
 }

@@ -4,6 +4,7 @@ use calls::day_in;
 use calls::file_in;
 use calls::second_in;
 use libc::STDIN_FILENO;
+ghost use mathlib.Core.Path.{_≡_};
 ghost use Prim.Native.Nat.{_<_, _≤_};
 ghost use lib.ListN.{length};
 use say::numbers;
@@ -67,8 +68,19 @@ fn run_all(text: &[u8]) {
     }
 }
 
+// Room for all vectors, and more.
+fn input_room() -> [u8; 262144]
+    ensures { λ r. ⌜ 262144 ≡ length r ⌝ }
+{
+    [0; 262144]
+}
+
+// Vectors for which there is no room would go unnoticed, so it is said where none is left.
 fn main() {
-    let mut text = io::large_buffer();
+    let mut text = input_room();
     let n = io::read_full(STDIN_FILENO, &mut text);
     run_all(&text[..n]);
+    if n == text.len() {
+        say_text(b"there may be vectors that were not read\n");
+    }
 }

@@ -1,16 +1,16 @@
 use Prim.Native.Nat.{_-_, _≤_}
 use borrow.Author.Needs.{needs}
-use Rattle.draws.proofs.draw_classes.Statement.{statement}
-use Rattle.draws.proofs.draw_classes.Tie as tie
+use Rattle.draws.proofs.draw_seats.Statement.{statement}
+use Rattle.draws.proofs.draw_seats.Tie as tie
 
 abbrev Inv-loop : tie.InvT-loop
-Inv-loop state₀ n most classes₀ i₀ state classes i = i ≤ n
+Inv-loop state₀ n low more numbers₀ i₀ state numbers i = i ≤ n
 
 abbrev μ-loop : tie.MeasureT-loop
-μ-loop state₀ n most classes₀ i₀ state classes i = n - i
+μ-loop state₀ n low more numbers₀ i₀ state numbers i = n - i
 
-pub draw-classes-spec : {M : Type 1} → statement M
-draw-classes-spec =
+pub draw-seats-spec : {M : Type 1} → statement M
+draw-seats-spec =
     tie.close
     (tie.spec
     Inv-loop
