@@ -1,6 +1,6 @@
 -- The book and the sheet of a file that no line turns away are within paper 01's bounds; so is a book that the writer's lines take.
 -- Assumes nothing.
-use mathlib.Core.Bool.{true, not}
+use mathlib.Core.Bool.{true}
 use mathlib.Core.List.{List, _∷_}
 use mathlib.Core.Option.{Option, none, some}
 use mathlib.Core.Path.{_≡_, refl, sym, _∙_, ap, ap₂}
@@ -8,19 +8,20 @@ use Prim.Native.Nat.{ℕ, _+_, _*_, _<_}
 use native.Mathlib.Nat.{mul-le-mul-right}
 use native.Mathlib.Omega.{arith}
 use lib.ListN.{length, getD}
-use Rattle.model.specs.Lowest.{when, andThen}
+use Rattle.model.specs.Lowest.{andThen}
 use Rattle.model.specs.Book.{Book, Grid, Shaped, cell, seats, windows}
 use Rattle.dayfile.specs.Bounds.{Fit, FirstFit, SheetFit, TwoByte}
 use Rattle.dayfile.specs.Layout.{Bytes, field, start, size, seatsIn, windowsIn, sizeAt, entryOf, gridIn, firstIn, bookOf, sheetOf}
-use Rattle.dayfile.specs.File.{Part, part, flat, optParts, partsOf, assemble, fileOf}
-use Rattle.dayfile.specs.Table.{within, firstOf, line7, line8, line10, line11, line12, line18, valueLines, optionLines, writeLines}
+use Rattle.dayfile.specs.File.{Part, part, oneIf, flat, optParts, partsOf, assemble, fileOf}
+use Rattle.dayfile.specs.Table.{within, firstOf, wrongFields, line7, line8, line10, line11, line12, line18}
+use Rattle.dayfile.specs.Table.{valueLines, optionLines, writeLines}
 use Rattle.dayfile.proofs.Tests.{low-as, high-as, within-low, within-high}
 use Rattle.dayfile.proofs.Lines.{none-holds}
 use Rattle.dayfile.proofs.Fields.{field-small, fields-length, fields-at, grid-shaped, grid-cell}
 use Rattle.dayfile.proofs.Grids.{flat-length, flat-at}
 use Rattle.dayfile.proofs.Container.{nth, size-is, body-is}
-use Rattle.dayfile.proofs.Sound.{Sound, FieldsWithin, Even, even-size, none-outside, kept}
-use Rattle.dayfile.proofs.WrittenReads.{first-line}
+use Rattle.dayfile.proofs.Sound.{Sound, FieldsWithin, Even, even-size, none-outside}
+use Rattle.dayfile.proofs.WrittenReads.{none-fits, list-seat, written-seats, first-at}
 
 -- ---- a file that is read
 
@@ -72,12 +73,13 @@ module _ (f : List ℕ) where
   sheet-fits = sheet-shaped (entryOf f 4)
 
   first-within : (n : ℕ) → n ≡ seatsIn f → (r : Option ℕ)
-      → ((e : ℕ) → r ≡ some e → within 1 (seatsIn f) (field f (start f e)) ≡ true)
+      → ((e : ℕ) → r ≡ some e → FieldsWithin f (start f e) 1 1 (seatsIn f))
       → FirstFit n (andThen r (λ e. some (field f (start f e))))
   first-within n q none h = tt
   first-within n q (some e) h =
       let x : ℕ = field f (start f e) in
-      let v = h e refl in
+      let v = ap (λ (i : ℕ). within 1 (seatsIn f) (field f i)) {x = start f e} {y = start f e + 2 * 0} (omega arith)
+      ∙ h e refl 0 (omega arith) in
       (within-low 1 (seatsIn f) x v, omega (arith, q, within-high 1 (seatsIn f) x v))
 
   pub first-fits : Sound f → FirstFit (seats (bookOf f)) (bookOf f .first)
@@ -164,10 +166,12 @@ module _ (b : Book) (o : Option Grid) (shape : Shaped (seats b) (windows b) (b .
       }
 
   -- a first seat that line 18 lets pass
-  seat-fits : (k : Option ℕ) (at : ℕ) → andThen k (λ x. when (not (within 1 (seats b) x)) at) ≡ none → FirstFit (seats b) k
-  seat-fits none at e = tt
-  seat-fits (some x) at e =
-      let v = kept (within 1 (seats b) x) at e in (within-low 1 (seats b) x v, within-high 1 (seats b) x v)
+  seat-fits : line18 file ≡ none → FirstFit (seats b) (b .first)
+  unfolding line18 fileOf partsOf
+  seat-fits e =
+      list-seat (seats b) (b .first)
+      (none-fits ps _ 1 1 (seats b) (entryOf file 5) (oneIf (b .first)) (first-at b o)
+      (ap (λ (n : ℕ). andThen (entryOf file 5) (wrongFields file 1 1 n)) (sym (written-seats b o)) ∙ e))
 
   file-fits : (room : ℕ) → firstOf (writeLines file room) ≡ none → Fit b
   unfolding fileOf partsOf
@@ -195,7 +199,7 @@ module _ (b : Book) (o : Option Grid) (shape : Shaped (seats b) (windows b) (b .
             high-as 0 4095
             (sym (flat-at (seats b) (windows b) (b .caps) shape i j h k) ∙ number-at 2 (i * windows b + j) (omega arith) (omega arith))
             (v .caps (i * windows b + j) (omega arith));
-        first-seat = seat-fits (b .first) _ (sym (first-line b o) ∙ v .first);
+        first-seat = seat-fits (v .first);
       }
 
   pub taken-fits : (room : ℕ) → firstOf (writeLines (fileOf b o) room) ≡ none → Fit b

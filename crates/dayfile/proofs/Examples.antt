@@ -12,7 +12,7 @@ use Rattle.dayfile.specs.Layout.{field, entryOf, ends, fieldsAt, gridAt,
 use Rattle.dayfile.specs.File.{bytesOf, contents, bodies, fieldsOf, assemble, flat, optPart, optParts, partsOf, fileOf}
 use Rattle.dayfile.specs.Table.{refuse, kindRight, sizeRight, gridRight, outside}
 use Rattle.dayfile.specs.Table.{line1, line2, line3, line4, line5, line6, line7, line8, line9, line10, line11, line12}
-use Rattle.dayfile.specs.Table.{wrongSeat, line18, contentsLines, lengthLines, valueLines, optionLines, readLines}
+use Rattle.dayfile.specs.Table.{wrongFields, line18, contentsLines, lengthLines, valueLines, optionLines, readLines}
 use Rattle.dayfile.specs.Outcome.{turnedAway, answer, readFile}
 
 -- the K10 book: supply 3; cap 2
@@ -80,7 +80,7 @@ pub k11-read :
     × (readFile (k11 ++ (0x00 ∷ [])) ≡ turnedAway (refuse 6 27))
 unfolding readFile readLines contentsLines lengthLines valueLines optionLines
     line1 line2 line3 line4 line5 line6 line7 line8 line9 line10 line11 line12
-    line18 wrongSeat lowest kindRight sizeRight gridRight outside field ends entryOf firstIn bookOf sheetOf fieldsAt gridAt table
+    line18 wrongFields lowest kindRight sizeRight gridRight outside field ends entryOf firstIn bookOf sheetOf fieldsAt gridAt table
 k11-read = (refl, refl, refl, refl)
 
 pub named-written : (fileOf (firstIs 1) none ≡ named 1) × (fileOf (firstIs 1) sheet ≡ named-planned)
@@ -95,5 +95,5 @@ pub named-read :
     × (readFile (named 2) ≡ turnedAway (refuse 18 32))
 unfolding readFile readLines contentsLines lengthLines valueLines optionLines
     line1 line2 line3 line4 line5 line6 line7 line8 line9 line10 line11 line12
-    line18 wrongSeat lowest kindRight sizeRight gridRight outside field ends entryOf firstIn bookOf sheetOf fieldsAt gridAt table
+    line18 wrongFields lowest kindRight sizeRight gridRight outside field ends entryOf firstIn bookOf sheetOf fieldsAt gridAt table
 named-read = (refl, refl, refl, refl)

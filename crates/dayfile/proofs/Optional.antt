@@ -74,6 +74,13 @@ lengthIf (some xs) = length xs
 
 -- ---- where a kind's entry lies in the file of some parts
 
+-- an entry with the body, k fields behind the first one's start, or neither
+abbrev pub BodyAt : List Part → ℕ → Option ℕ → Option (List ℕ) → Type 0
+BodyAt ps k none none = Unit {0}
+BodyAt ps k none (some xs) = ⊥
+BodyAt ps k (some e) none = ⊥
+BodyAt ps k (some e) (some xs) = (e < length ps) × (nth ps e .body ≡ xs) × (before ps e ≡ k)
+
 module _ (first : ℕ) (ps : List Part) (told : entriesIn first ≡ length ps) (order : InOrder (assemble first ps)) where
   abbrev file : List ℕ
   file = assemble first ps
@@ -84,16 +91,9 @@ module _ (first : ℕ) (ps : List Part) (told : entriesIn first ≡ length ps) (
     pub same : (i : ℕ) → nth ps (e + i) ≡ nth qs i
     pub ahead : before ps e ≡ k
 
-  -- an entry with the body, k fields behind the first one's start, or neither
-  abbrev pub BodyAt : ℕ → Option ℕ → Option (List ℕ) → Type 0
-  BodyAt k none none = Unit {0}
-  BodyAt k none (some xs) = ⊥
-  BodyAt k (some e) none = ⊥
-  BodyAt k (some e) (some xs) = (e < length ps) × (nth ps e .body ≡ xs) × (before ps e ≡ k)
-
   -- the entry of kind lo is found, and the kinds after it lie from entry `next` on
   pub record Looked (lo k : ℕ) (o : Option (List ℕ)) (qs : List Part) : Type 0 where
-    pub body : BodyAt k (entryOf (assemble first ps) lo) o
+    pub body : BodyAt ps k (entryOf (assemble first ps) lo) o
     pub next : ℕ
     pub split : Split (assemble first ps) order next (suc lo)
     pub tail : Tail next (k + lengthIf o) qs
@@ -115,7 +115,7 @@ module _ (first : ℕ) (ps : List Part) (told : entriesIn first ≡ length ps) (
       → (e < count (assemble first ps) → kind (assemble first ps) e ≡ lo → ⊥) → Looked lo k none qs
   missing e lo k qs s t n =
       record {
-        body = subst (λ (r : Option ℕ). BodyAt k r none) (sym (miss file order e lo s n)) tt;
+        body = subst (λ (r : Option ℕ). BodyAt ps k r none) (sym (miss file order e lo s n)) tt;
         next = e;
         split = split-miss file order e lo s n;
         tail = record { long = t .long; same = t .same; ahead = omega (arith, t .ahead) };
@@ -133,7 +133,7 @@ module _ (first : ℕ) (ps : List Part) (told : entriesIn first ≡ length ps) (
       let l′ : e < count file = omega arith in
       record {
         body =
-            subst (λ (r : Option ℕ). BodyAt k r (some xs)) (sym (hit file order e lo s l′ q))
+            subst (λ (r : Option ℕ). BodyAt ps k r (some xs)) (sym (hit file order e lo s l′ q))
             (l, ap (λ (p : Part). p .body) here, t .ahead);
         next = suc e;
         split = split-hit file order e lo s l′ q;

@@ -18,7 +18,7 @@ use Rattle.dayfile.specs.Layout.{field, count, contentsEnd, kind, start,
 use Rattle.dayfile.specs.Layout.{entryOf}
 use Rattle.dayfile.specs.Table.{firstOf, within, offset, known, kindRight, sizeRight, gridRight, outside}
 use Rattle.dayfile.specs.Table.{line1, line2, line3, line4, line5, line6, line7, line8, line9, line10, line11, line12}
-use Rattle.dayfile.specs.Table.{wrongSeat, line18, contentsLines, lengthLines, valueLines, optionLines, readLines}
+use Rattle.dayfile.specs.Table.{wrongFields, line18, contentsLines, lengthLines, valueLines, optionLines, readLines}
 use Rattle.dayfile.proofs.Tests.{within-low, within-high, when-none}
 use Rattle.dayfile.proofs.Search.{offset-none}
 use Rattle.dayfile.proofs.Lines.{none-holds, none-parts}
@@ -47,7 +47,7 @@ pub record Sound (f : List ℕ) : Type 0 where
   pub classes : FieldsWithin f (start f 0) (seatsIn f) 1 8
   pub supplies : FieldsWithin f (start f 1) (windowsIn f) 0 4095
   pub caps : FieldsWithin f (start f 2) (seatsIn f * windowsIn f) 0 4095
-  pub first : (e : ℕ) → entryOf f 5 ≡ some e → within 1 (seatsIn f) (field f (start f e)) ≡ true
+  pub first : (e : ℕ) → entryOf f 5 ≡ some e → FieldsWithin f (start f e) 1 1 (seatsIn f)
 
 -- ---- line by line
 
@@ -92,23 +92,29 @@ grid-size f e g k =
     eqb-true (size f e) cells (cond-when (within 3 4 (kind f e)) (eqb (size f e) cells) true g k)
 
 -- the first of two lines that do not hold, and the second
-neither : (o p : Option ℕ) → orElse o p ≡ none → (o ≡ none) × (p ≡ none)
+pub neither : (o p : Option ℕ) → orElse o p ≡ none → (o ≡ none) × (p ≡ none)
 neither none p e = (refl, e)
 neither (some x) p e = absurd (let z : _≡_ {A = ℕ} 0 1 = cc in omega arith)
 
--- the entry of the first seat has one field, a seat of the book
-record OneSeat (f : List ℕ) (e : ℕ) : Type 0 where
-  long : size f e ≡ 2
-  seat : within 1 (seatsIn f) (field f (start f e)) ≡ true
+-- the body of an entry has n fields, each low to high
+pub record Listed (f : List ℕ) (n low high e : ℕ) : Type 0 where
+  pub long : size f e ≡ 2 * n
+  pub fields : FieldsWithin f (start f e) n low high
 
-one-seat : (f : List ℕ) (e : ℕ) → line18 f ≡ none → entryOf f 5 ≡ some e → OneSeat f e
-unfolding line18 wrongSeat
-one-seat f e h q =
-    let both = neither _ _ (ap (λ (r : Option ℕ). andThen r (wrongSeat f)) (sym q) ∙ h) in
+pub listed : (f : List ℕ) (n low high e : ℕ) → wrongFields f n low high e ≡ none → Listed f n low high e
+unfolding wrongFields
+listed f n low high e h =
+    let both = neither _ _ h in
     record {
-      long = eqb-true (size f e) 2 (kept (eqb (size f e) 2) (sizeAt e) (both .0));
-      seat = kept (within 1 (seatsIn f) (field f (start f e))) (start f e) (both .1);
+      long = eqb-true (size f e) (2 * n) (kept (eqb (size f e) (2 * n)) (sizeAt e) (both .0));
+      fields = none-outside f (start f e) n low high (both .1);
     }
+
+-- the body of a kind that may be missing, whose line does not hold
+listed-at : (f : List ℕ) (k n low high : ℕ) → andThen (entryOf f k) (wrongFields f n low high) ≡ none
+    → (e : ℕ) → entryOf f k ≡ some e → Listed f n low high e
+listed-at f k n low high h e q =
+    listed f n low high e (ap (λ (r : Option ℕ). andThen r (wrongFields f n low high)) (sym q) ∙ h)
 
 -- ---- the length of each body, by its kind: one step for each kind from 3 on
 
@@ -147,7 +153,7 @@ module _ (f : List ℕ) (free : firstOf (readLines f) ≡ none) where
       let c = none-parts (valueLines f) (optionLines f) (b .1) in (a .0, b .0, c .0, c .1)
 
   pub sound : Sound f
-  unfolding contentsLines lengthLines valueLines optionLines line1 line2 line3 line4 line5 line6 line7 line8 line9 line10 line11 line12
+  unfolding contentsLines lengthLines valueLines optionLines line1 line2 line3 line4 line5 line6 line7 line8 line9 line10 line11 line12 line18
   sound =
       let n = none-holds (contentsLines f) (parts .0) in
       let l = none-holds (lengthLines f) (parts .1) in
@@ -163,8 +169,9 @@ module _ (f : List ℕ) (free : firstOf (readLines f) ≡ none) where
       let ev8 = eight .even in
       let nine : (k : ℕ) → within 3 4 k ≡ true → (e : ℕ) → e < count f → kind f e ≡ k → size f e ≡ 2 * (seatsIn f * windowsIn f) =
       λ k g e h q. grid-size f e (all-right sizeAt (gridRight f) (count f) (l .1 .1 .0) e h) (ap (within 3 4) q ∙ g) in
+      let seat = listed-at f 5 1 1 (seatsIn f) (w .0) in
       let one : (e : ℕ) → e < count f → kind f e ≡ 5 → size f e ≡ 2 * 1 =
-      λ e h q. one-seat f e (w .0) (entry-is f o e 5 (omega arith) h q) .long in
+      λ e h q. seat e (entry-is f o e 5 (omega arith) h q) .long in
       record {
         order = o;
         room = ltb-false (length f) (contentsEnd (count f)) (when-none _ (length f) (n .1 .1 .0));
@@ -179,5 +186,5 @@ module _ (f : List ℕ) (free : firstOf (readLines f) ≡ none) where
         classes = none-outside f (start f 0) (seatsIn f) 1 8 (v .0);
         supplies = none-outside f (start f 1) (windowsIn f) 0 4095 (v .1 .0);
         caps = none-outside f (start f 2) (seatsIn f * windowsIn f) 0 4095 (v .1 .1 .0);
-        first = λ e q. one-seat f e (w .0) q .seat;
+        first = λ e q. seat e q .fields;
       }

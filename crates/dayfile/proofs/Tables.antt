@@ -54,6 +54,10 @@ pub sized-length : (n : ℕ) (xs : List ℕ) → length (sized n xs) ≡ n
 unfolding sized
 sized-length n xs = table-length n (λ i. getD xs i 0)
 
+pub sized-one : (x : ℕ) → sized 1 (x ∷ []) ≡ x ∷ []
+unfolding sized table
+sized-one x = refl
+
 pub sized-at : (n : ℕ) (xs : List ℕ) (i : ℕ) → i < n → getD (sized n xs) i 0 ≡ getD xs i 0
 unfolding sized
 sized-at n xs i h = table-at n (λ k. getD xs k 0) i 0 h

@@ -18,12 +18,13 @@ use Rattle.dayfile.specs.Layout.{entryOf, fieldsAt, gridAt, gridIn, firs
 use Rattle.dayfile.specs.File.{Part, part, partsOf, flatIf, oneIf, optPart, optParts, flat, assemble, fileOf}
 use Rattle.dayfile.specs.Table.{firstOf, within, offset, known, kindRight, sizeRight, gridRight, outside}
 use Rattle.dayfile.specs.Table.{line1, line2, line3, line4, line5, line6, line7, line8, line9, line10, line11, line12}
-use Rattle.dayfile.specs.Table.{wrongSeat, line18, contentsLines, lengthLines, valueLines, optionLines, readLines}
-use Rattle.dayfile.proofs.Tests.{is-within, cond-no}
+use Rattle.dayfile.specs.Table.{wrongFields, line18, contentsLines, lengthLines, valueLines, optionLines, readLines}
+use Rattle.dayfile.proofs.Tests.{is-within, within-low, within-high, cond-no}
 use Rattle.dayfile.proofs.Fields.{fields-at}
 use Rattle.dayfile.proofs.Grids.{flat-length, flat-cell, grid-there}
 use Rattle.dayfile.proofs.Container.{nth, before-none, before-all, file-size, count-is, kind-is, start-is, size-is, ends-is, body-is}
 use Rattle.dayfile.proofs.Rising.{InOrder, split-first}
+use Rattle.dayfile.proofs.Sound.{listed}
 use Rattle.dayfile.proofs.Optional.{Above, above-opt, above-next, Each, each-nth, each-opt, IfThere, few-opt}
 use Rattle.dayfile.proofs.Optional.{lengthIf, BodyAt, Looked, look}
 
@@ -41,6 +42,57 @@ outside-none f at n low high xs e q h =
     ap (offset (λ i. at + 2 * i))
     (lowest-fails n (λ i. not (within low high (field f (at + 2 * i))))
     (λ i p. ap (λ (x : ℕ). not (within low high x)) (here i p) ∙ ap not (h i (omega arith))))
+
+-- ---- a body that may be missing: what its line says, by its numbers
+
+-- n numbers, each low to high
+abbrev pub ListFit : ℕ → ℕ → ℕ → List ℕ → Type 0
+ListFit n low high xs = (length xs ≡ n) × AllWithin low high xs
+
+module _ (ps : List Part) (k n low high : ℕ) where
+  -- its line does not hold where it fits
+  fits-none : (r : Option ℕ) (o : Option (List ℕ)) → BodyAt ps k r o → IfThere (ListFit n low high) o
+      → andThen r (wrongFields (assemble (length ps) ps) n low high) ≡ none
+  unfolding wrongFields
+  fits-none none none h g = refl
+  fits-none none (some xs) h g = absurd h
+  fits-none (some e) none h g = absurd h
+  fits-none (some e) (some xs) h g =
+      let file : List ℕ = assemble (length ps) ps in
+      let long = size-is (length ps) ps refl e (h .0) ∙ ap (λ (ys : List ℕ). 2 * length ys) (h .1) ∙ ap (λ (i : ℕ). 2 * i) (g .0) in
+      let body = ap (λ (ys : List ℕ). fieldsAt file (start file e) (length ys)) (sym (h .1)) ∙ body-is (length ps) ps refl e (h .0) ∙ h .1 in
+      ap (λ (t : Bool). orElse (when (not t) (sizeAt e)) (outside file (start file e) n low high)) (eq-eqb (size file e) (2 * n) long)
+      ∙ outside-none file (start file e) n low high xs (sym (g .0)) body (g .1)
+
+  -- and nowhere else
+  pub none-fits : (r : Option ℕ) (o : Option (List ℕ)) → BodyAt ps k r o
+      → andThen r (wrongFields (assemble (length ps) ps) n low high) ≡ none → IfThere (ListFit n low high) o
+  none-fits none none h g = tt
+  none-fits none (some xs) h g = absurd h
+  none-fits (some e) none h g = absurd h
+  none-fits (some e) (some xs) h g =
+      let file : List ℕ = assemble (length ps) ps in
+      let told = listed file n low high e g in
+      let size = size-is (length ps) ps refl e (h .0) ∙ ap (λ (ys : List ℕ). 2 * length ys) (h .1) in
+      let long : length xs ≡ n = omega (arith, told .long) in
+      let body = ap (λ (i : ℕ). fieldsAt file (start file e) i) (ap length (sym (h .1))) ∙ body-is (length ps) ps refl e (h .0) ∙ h .1 in (
+        long,
+        λ i l. ap (within low high) (ap (λ (ys : List ℕ). getD ys i 0) (sym body) ∙ fields-at file (start file e) (length xs) i l)
+            ∙ told .fields i (omega arith),
+      )
+
+-- a first seat is one number
+seat-list : (n : ℕ) (k : Option ℕ) → FirstFit n k → IfThere (ListFit 1 1 n) (oneIf k)
+seat-list n none h = tt
+seat-list n (some x) h = (refl, one)
+  where
+    one : AllWithin 1 n (x ∷ [])
+    one zero l = is-within 1 n x (h .0) (h .1)
+    one (suc i) l = absurd (omega arith)
+
+pub list-seat : (n : ℕ) (k : Option ℕ) → IfThere (ListFit 1 1 n) (oneIf k) → FirstFit n k
+list-seat n none h = tt
+list-seat n (some x) h = let v = h .1 0 (omega arith) in (within-low 1 n x v, within-high 1 n x v)
 
 -- kinds 3 and 4 have grids of n numbers
 abbrev GridPart : ℕ → Part → Type 0
@@ -146,10 +198,6 @@ module _ (b : Book) (o : Option Grid) where
   abbrev ahead : ℕ
   ahead = lists + lengthIf (flatIf o)
 
-  -- a body of that many fields before it, at an entry, or neither
-  abbrev At : ℕ → Option ℕ → Option (List ℕ) → Type 0
-  At = BodyAt (length ps) ps refl order-f
-
   sheet-look : Looked (length ps) ps refl order-f 4 lists (flatIf o) tail
   unfolding optParts
   sheet-look =
@@ -174,27 +222,15 @@ module _ (b : Book) (o : Option Grid) where
       ∙ sym (fields-at f at n 0 (omega arith))
       ∙ ap (λ (xs : List ℕ). getD xs 0 0) (body-f e h ∙ q)
 
-  -- line 18: the value alone can be wrong
-  seat-line : (r k : Option ℕ) → At ahead r (oneIf k)
-      → andThen r (wrongSeat f) ≡ andThen k (λ x. when (not (within 1 S x)) (contentsEnd (length ps) + 2 * ahead))
-  unfolding wrongSeat
-  seat-line none none h = refl
-  seat-line none (some x) h = absurd h
-  seat-line (some e) none h = absurd h
-  seat-line (some e) (some x) h =
-      let long : size f e ≡ 2 = size-f e (h .0) ∙ ap (λ (xs : List ℕ). 2 * length xs) (h .1) in
-      let at : start f e ≡ contentsEnd (length ps) + 2 * ahead =
-      start-is (length ps) ps refl e (h .0) ∙ ap (λ (i : ℕ). contentsEnd (length ps) + 2 * i) (h .2) in
-      let value : Option ℕ = when (not (within 1 (seatsIn f) (field f (start f e)))) (start f e) in
-      ap (λ (t : Bool). orElse (when (not t) (sizeAt e)) value) (eq-eqb (size f e) 2 long)
-      ∙ ap (λ (n : ℕ). when (not (within 1 n (field f (start f e)))) (start f e)) seats-f
-      ∙ ap₂ (λ (y z : ℕ). when (not (within 1 S y)) z) (one-f e x (h .0) (h .1)) at
+  -- how many seats its lines go by, and where the first seat's body lies
+  pub written-seats : seatsIn (fileOf b o) ≡ seats b
+  unfolding fileOf partsOf
+  written-seats = seats-f
 
-  pub first-line : line18 (fileOf b o)
-      ≡ andThen (b .first) (λ x. when (not (within 1 (seats b) x))
-      (contentsEnd (length (partsOf b o)) + 2 * (seats b + windows b + length (flat (b .caps)) + lengthIf (flatIf o))))
-  unfolding fileOf partsOf line18
-  first-line = seat-line (entryOf f 5) (b .first) (first-look .body)
+  pub first-at : BodyAt (partsOf b o) (seats b + windows b + length (flat (b .caps)) + lengthIf (flatIf o)) (entryOf (fileOf b o) 5)
+      (oneIf (b .first))
+  unfolding fileOf partsOf
+  first-at = first-look .body
 
   module _ (fit : Fit b) (sheet : SheetFit b o) where
     -- ---- the parts that may be missing
@@ -313,13 +349,11 @@ module _ (b : Book) (o : Option Grid) where
 
     -- ---- parts that may be missing
 
-    seat-none : (k : Option ℕ) (at : ℕ) → FirstFit S k → andThen k (λ x. when (not (within 1 S x)) at) ≡ none
-    seat-none none at h = refl
-    seat-none (some x) at h = ap (λ (t : Bool). when (not t) at) (is-within 1 S x (h .0) (h .1))
-
     at18 : line18 f ≡ none
     unfolding line18
-    at18 = seat-line (entryOf f 5) (b .first) (first-look .body) ∙ seat-none (b .first) _ (fit .first-seat)
+    at18 =
+        ap (λ (n : ℕ). andThen (entryOf f 5) (wrongFields f 1 1 n)) seats-f
+        ∙ fits-none ps ahead 1 1 S (entryOf f 5) (oneIf (b .first)) (first-look .body) (seat-list S (b .first) (fit .first-seat))
 
     no-line : firstOf (readLines f) ≡ none
     unfolding readLines contentsLines lengthLines valueLines optionLines
@@ -330,7 +364,7 @@ module _ (b : Book) (o : Option Grid) where
     abbrev made : List ℕ → List ℕ → Grid → Option ℕ → Book
     made x y z k = record { classes = x; supplies = y; caps = z; first = k }
 
-    seat-at : (r k : Option ℕ) → At ahead r (oneIf k) → andThen r (λ e. some (field f (start f e))) ≡ k
+    seat-at : (r k : Option ℕ) → BodyAt ps ahead r (oneIf k) → andThen r (λ e. some (field f (start f e))) ≡ k
     seat-at none none h = refl
     seat-at none (some x) h = absurd h
     seat-at (some e) none h = absurd h
@@ -353,7 +387,7 @@ module _ (b : Book) (o : Option Grid) where
         (seat-at (entryOf f 5) (b .first) (first-look .body))
 
     -- a grid of a kind that may be missing
-    grid-at : (r : Option ℕ) (g : Option Grid) → SheetFit b g → At lists r (flatIf g)
+    grid-at : (r : Option ℕ) (g : Option Grid) → SheetFit b g → BodyAt ps lists r (flatIf g)
         → andThen r (λ e. some (gridIn f e)) ≡ g
     grid-at none none p h = refl
     grid-at none (some g) p h = absurd h

@@ -106,14 +106,13 @@ line12 f = outside f (start f 2) (seatsIn f * windowsIn f) 0 4095
 
 -- ---- parts that may be missing
 
--- entry e as that of the first seat: its length is not 2 | that length field; or it is not a seat of the book | that value
-unfoldable pub wrongSeat : List ℕ → ℕ → Option ℕ
-wrongSeat f e =
-    orElse (when (not (eqb (size f e) 2)) (sizeAt e)) (when (not (within 1 (seatsIn f) (field f (start f e)))) (start f e))
+-- entry e as a body of n fields, each low to high: its length is not 2 × n | that length field; or a field is not low to high | that value
+unfoldable pub wrongFields : List ℕ → ℕ → ℕ → ℕ → ℕ → Option ℕ
+wrongFields f n low high e = orElse (when (not (eqb (size f e) (2 * n))) (sizeAt e)) (outside f (start f e) n low high)
 
 -- 18: first seat: length not 2, or not a seat of the book | that length field, or that value
 unfoldable pub line18 : List ℕ → Option ℕ
-line18 f = andThen (entryOf f 5) (wrongSeat f)
+line18 f = andThen (entryOf f 5) (wrongFields f 1 1 (seatsIn f))
 
 -- ---- marker only
 

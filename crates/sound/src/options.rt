@@ -1,43 +1,50 @@
 // The lines of the kinds that may be missing.
 ghost use mathlib.Core.Path.{_≡_};
 ghost use Prim.Native.Nat.{_<_};
-ghost use Rattle.dayfile.specs.Table.{wrongSeat, line18, firstOf, optionLines};
+ghost use Rattle.model.specs.Lowest.{andThen};
+ghost use Rattle.dayfile.specs.Layout.{entryOf};
+ghost use Rattle.dayfile.specs.Table.{wrongFields, firstOf, optionLines};
 ghost use Rattle.dayfile.specs.Memory.{found, refused};
 use dayfile::Check;
 use dayfile::Found;
 use dayfile::first_of;
-use dayfile::outside_at;
 use fields::entry_of;
-use fields::field;
 use fields::seats;
 use fields::size;
 use fields::start;
+use values::outside;
 
-// Entry e as that of the first seat: its length is not 2, at that length; or it is not a seat of the book, at that value.
-fn wrong_seat(file: &[u8], e: usize) -> Found
-    requires { ⌜ e < 65536 ⌝ }
-    ensures { λ r. ⌜ found r ≡ wrongSeat (now (file .entry)) e ⌝ }
+// Entry e as a body of n fields: its length is not 2 × n, at that length; or a field is not low to high, at that value.
+fn wrong_fields(file: &[u8], e: usize, n: usize, low: usize, high: usize) -> Found
+    requires { ⌜ (e < 65536) × (n < 32768) ⌝ }
+    ensures { λ r. ⌜ found r ≡ wrongFields (now (file .entry)) n low high e ⌝ }
 {
-    if size(file, e) != 2 {
+    if size(file, e) != 2 * n {
         return Found::At(6 + 6 * e);
     }
-    let at = start(file, e);
-    outside_at(1, seats(file), field(file, at), at)
+    outside(file, start(file, e), n, low, high)
 }
 
-// Line 18: the first seat.
-fn wrong_first(file: &[u8]) -> Found
-    ensures { λ r. ⌜ found r ≡ line18 (now (file .entry)) ⌝ }
+// The same of the body of a kind that may be missing.
+fn wrong_body(file: &[u8], kind: usize, n: usize, low: usize, high: usize) -> Found
+    requires { ⌜ n < 32768 ⌝ }
+    ensures { λ r. ⌜ found r ≡ andThen (entryOf (now (file .entry)) kind) (wrongFields (now (file .entry)) n low high) ⌝ }
 {
-    if let Found::At(e) = entry_of(file, 5) {
-        return wrong_seat(file, e);
+    if let Found::At(e) = entry_of(file, kind) {
+        return wrong_fields(file, e, n, low, high);
     }
     Found::Nothing
 }
 
-// Line 18, and no more.
+// Line 18: the first seat.
 pub fn check_options(file: &[u8]) -> Check
     ensures { λ r. ⌜ refused r ≡ firstOf (optionLines (now (file .entry))) ⌝ }
 {
-    first_of(18, wrong_first(file), Found::Nothing, Found::Nothing)
+    let n = seats(file);
+    first_of(
+        18,
+        wrong_body(file, 5, 1, 1, n),
+        Found::Nothing,
+        Found::Nothing,
+    )
 }

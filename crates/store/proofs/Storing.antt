@@ -127,7 +127,12 @@ grid-room {n = n} m g i xs r h k =
     let q = mul-le-mul-right m h in
     let x = put-end k in let y = put-long k in record { fits = omega (arith, r .fits) }
 
--- ---- what may be missing: no rows
+-- ---- what may be missing: no numbers, no rows
+
+pub list-if : (t : Bool) (n : ℕ) (xs : List ℕ) → sized (sizeIf t n) xs ≡ fieldsIf t (sized n xs)
+unfolding sized table
+list-if true n xs = refl
+list-if false n xs = refl
 
 pub grid-if : (t : Bool) (n m : ℕ) (g : Grid) → flat (sizedGrid (sizeIf t n) m g) ≡ fieldsIf t (flat (sizedGrid n m g))
 grid-if true n m g = refl

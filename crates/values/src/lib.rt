@@ -13,7 +13,7 @@ use fields::start;
 use fields::windows;
 
 // The first of n fields from an offset on that is not low to high. Both bytes of a field lie before the end.
-fn outside(file: &[u8], at: usize, n: usize, low: usize, high: usize) -> Found
+pub fn outside(file: &[u8], at: usize, n: usize, low: usize, high: usize) -> Found
     requires { ⌜ (at < 65536) × (n < 2000000000) ⌝ }
     ensures { λ r. ⌜ found r ≡ outside (now (file .entry)) at n low high ⌝ }
 {

@@ -2,7 +2,7 @@
 -- Assumes nothing.
 use mathlib.Core.Bool.{Bool, true, false, not, _&&_}
 use mathlib.Core.List.{List, [], _∷_, _++_, append-assoc}
-use mathlib.Core.Option.{none, some}
+use mathlib.Core.Option.{Option, none, some}
 use mathlib.Core.Path.{_≡_, refl, sym, _∙_, ap, ap₂}
 use Prim.Native.Nat.{ℕ, _+_, _*_, _%_, _≤_, _<_}
 use native.Mathlib.Decide.{decLe}
@@ -10,13 +10,13 @@ use native.Mathlib.Omega.{arith}
 use lib.Dec.{leb, eqb}
 use lib.ListN.{length, getD}
 use borrow.Author.Tests.{le-leb, lt-leb, eq-eqb, lt-ltb, le-ltb}
-use Rattle.model.specs.Lowest.{lowest, when, andThen}
+use Rattle.model.specs.Lowest.{lowest, when, orElse, andThen}
 use Rattle.model.specs.Book.{Grid, seats, windows}
 use Rattle.sheet.specs.Sheets.{gridOf}
 use Rattle.sheet.specs.declared.Sheet.{Sheet}
-use Rattle.dayfile.specs.Layout.{field, entriesIn, contentsEnd, start, size, sizeAt, seatsIn, windowsIn}
-use Rattle.dayfile.specs.File.{Part, assemble, flat, flatIf, partsOf, fileOf}
-use Rattle.dayfile.specs.Table.{Line, Refusal, line, refuse, firstOf, within, offset, sizeRight, outside}
+use Rattle.dayfile.specs.Layout.{field, entriesIn, contentsEnd, start, size, sizeAt, seatsIn, windowsIn, entryOf}
+use Rattle.dayfile.specs.File.{Part, assemble, flat, flatIf, oneIf, partsOf, fileOf}
+use Rattle.dayfile.specs.Table.{Line, Refusal, line, refuse, firstOf, within, offset, sizeRight, outside, wrongFields}
 use Rattle.dayfile.specs.Table.{line7, line8, line10, line11, line12, line16, line18}
 use Rattle.dayfile.specs.Table.{valueLines, optionLines, bufferLines, writeLines}
 use Rattle.dayfile.specs.Memory.{sized, sizedGrid, bookIn, sheetIn, fileWith, fileIn, front, Writes}
@@ -27,17 +27,19 @@ use Rattle.dayfile.proofs.Tests.{within-high, yes-when, no-when}
 use Rattle.dayfile.proofs.Lines.{stop, on, stop-in, on-after, none-holds, none-parts}
 use Rattle.dayfile.proofs.Answers.{writes-refused, writes-whole}
 use Rattle.dayfile.proofs.Search.{same-search}
-use Rattle.dayfile.proofs.Tables.{sized-length}
+use Rattle.dayfile.proofs.Tables.{sized-length, sized-one}
 use Rattle.dayfile.proofs.Fields.{fields-at}
 use Rattle.dayfile.proofs.Grids.{sized-flat-length}
 use Rattle.dayfile.proofs.Container.{nth, before, start-is, size-is, body-is}
 use Rattle.dayfile.proofs.Sound.{kept}
-use Rattle.dayfile.proofs.Optional.{lengthIf}
-use Rattle.dayfile.proofs.WrittenReads.{first-line}
+use Rattle.dayfile.proofs.Optional.{lengthIf, IfThere, BodyAt}
+use Rattle.dayfile.proofs.WrittenReads.{written-seats, first-at}
 use Rattle.dayfile.proofs.Held.{seats-in}
-use Rattle.store.specs.Stores.{sizeIf, entries, slotsOf, slotsIn}
+use Rattle.store.specs.Stores.{sizeIf, fieldsIf, entries, slotsOf, slotsIn}
+use Rattle.store.proofs.Storing.{list-if}
 use Rattle.store.proofs.Files.{partsWith, parts-count}
 use Rattle.writer.specs.Values.{outsideIn}
+use Rattle.writer.proofs.Bounds.{outside-nil}
 
 -- ---- counts and sizes
 
@@ -85,6 +87,34 @@ module _ (first : ℕ) (ps : List Part) (told : entriesIn first ≡ length ps) w
       (ap (λ (k : ℕ). lowest k bad) q
       ∙ same-search bad (λ i. not (within low high (getD xs i 0))) (length xs)
       (λ i l. ap (λ (x : ℕ). not (within low high x)) (here i l)))
+
+-- ---- the body of a kind that may be missing
+
+module _ (ps : List Part) (k n low high at : ℕ) (here : at ≡ contentsEnd (length ps) + 2 * k) where
+  -- its numbers alone can be wrong
+  body-line : (r : Option ℕ) (o : Option (List ℕ)) → BodyAt ps k r o → IfThere (λ xs. length xs ≡ n) o
+      → andThen r (wrongFields (assemble (length ps) ps) n low high) ≡ andThen o (λ xs. outsideIn xs at low high)
+  unfolding wrongFields
+  body-line none none h l = refl
+  body-line none (some xs) h l = absurd h
+  body-line (some e) none h l = absurd h
+  body-line (some e) (some xs) h l =
+      let f : List ℕ = assemble (length ps) ps in
+      let body = ap length (h .1) ∙ l in
+      let long : size f e ≡ 2 * n = size-is (length ps) ps refl e (h .0) ∙ ap (λ (i : ℕ). 2 * i) body in
+      ap (λ (x : Bool). orElse (when (not x) (sizeAt e)) (outside f (start f e) n low high)) (eq-eqb (size f e) (2 * n) long)
+      ∙ body-search (length ps) ps refl e (h .0) n at low high (sym body)
+      (here ∙ ap (λ (i : ℕ). contentsEnd (length ps) + 2 * i) (sym (h .2)))
+      ∙ ap (λ (ys : List ℕ). outsideIn ys at low high) (h .1)
+
+-- one that is missing has no numbers
+if-there : (t : Bool) (n : ℕ) (src : List ℕ) (at low high : ℕ)
+    → outsideIn (sized (sizeIf t n) src) at low high ≡ andThen (when t (sized n src)) (λ xs. outsideIn xs at low high)
+if-there t n src at low high = ap (λ (xs : List ℕ). outsideIn xs at low high) (list-if t n src) ∙ go t
+  where
+    go : (u : Bool) → outsideIn (fieldsIf u (sized n src)) at low high ≡ andThen (when u (sized n src)) (λ xs. outsideIn xs at low high)
+    go true = refl
+    go false = outside-nil low high at
 
 -- ---- a day
 
@@ -247,16 +277,29 @@ module _ (m : Memory.Book) (caps : Grid) (t : Bool) (sheet : Grid) where
       let w = sized-length (m .windows) (m .supplies) in
       let g = sized-flat-length (m .seats) (m .windows) caps in let h = sheet-long t in omega arith
 
+  -- the first seat is one number
+  one-there : (u : Bool) → when u (sized 1 (m .first ∷ [])) ≡ oneIf (when u (m .first))
+  one-there true = ap some (sized-one (m .first))
+  one-there false = refl
+
+  one-long : (o : Option ℕ) → IfThere (λ xs. length xs ≡ 1) (oneIf o)
+  one-long none = tt
+  one-long (some x) = refl
+
   -- line 18 by what the code has at hand
   pub first-told : {at k : ℕ} → at ≡ contentsEnd (entries (slotsOf m t))
       → k ≡ m .seats + m .windows + m .seats * m .windows + sizeIf t (m .seats * m .windows)
-      → andThen (when (m .«has_first») (m .first)) (λ x. when (not (within 1 (m .seats) x)) (at + 2 * k))
-      ≡ line18 (fileWith m caps t sheet)
-  unfolding fileWith bookIn
-  first-told e q =
-      ap₂ (λ (n p : ℕ). andThen (when (m .«has_first») (m .first)) (λ x. when (not (within 1 n x)) p))
-      (sym (seats-in m caps)) (first-starts e q)
-      ∙ sym (first-line (bookIn m caps) (sheetIn m t sheet))
+      → outsideIn (sized (sizeIf (m .«has_first») 1) (m .first ∷ [])) (at + 2 * k) 1 (m .seats) ≡ line18 (fileWith m caps t sheet)
+  unfolding fileWith fileOf bookIn line18
+  first-told {at} {k} e q =
+      let p : ℕ = at + 2 * k in
+      let f : List ℕ = fileWith m caps t sheet in
+      if-there (m .«has_first») 1 (m .first ∷ []) p 1 (m .seats)
+      ∙ ap (λ (o : Option (List ℕ)). andThen o (λ xs. outsideIn xs p 1 (m .seats))) (one-there (m .«has_first»))
+      ∙ sym (body-line (partsOf (bookIn m caps) (sheetIn m t sheet)) _ 1 1 (m .seats) p (first-starts e q) (entryOf f 5) _
+      (first-at (bookIn m caps) (sheetIn m t sheet)) (one-long (when (m .«has_first») (m .first))))
+      ∙ ap (λ (n : ℕ). andThen (entryOf f 5) (wrongFields f 1 1 n))
+      (sym (written-seats (bookIn m caps) (sheetIn m t sheet) ∙ seats-in m caps))
 
 -- ---- what the writer answers, by where its refusal comes from
 

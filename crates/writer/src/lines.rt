@@ -1,15 +1,13 @@
 // Lines 7, 8, 10, 11, 12 and those of the parts that may be missing, on a day in memory, with the offsets of the file that would be
 // written.
 ghost use mathlib.Core.Path.{_≡_};
-ghost use mathlib.Core.Bool.{not};
 ghost use mathlib.Core.List.{[], _∷_, _++_};
 ghost use Prim.Native.Nat.{_+_, _*_, _<_, _≤_};
-ghost use Rattle.model.specs.Lowest.{when, andThen};
 ghost use Rattle.model.specs.Book.{Grid};
 ghost use Rattle.sheet.specs.Sheets.{gridOf};
 ghost use Rattle.dayfile.specs.Layout.{contentsEnd};
 ghost use Rattle.dayfile.specs.File.{flat};
-ghost use Rattle.dayfile.specs.Table.{within, line, line7, line8, valueLines, optionLines, firstOf};
+ghost use Rattle.dayfile.specs.Table.{line, line7, line8, valueLines, optionLines, firstOf};
 ghost use Rattle.dayfile.specs.Memory.{found, refused, sized, sizedGrid, fileWith, fileIn};
 ghost use Rattle.dayfile.specs.declared.Day.{Day};
 ghost use Rattle.store.specs.Stores.{sizeIf, entries, slotsOf, slotsIn};
@@ -99,24 +97,21 @@ fn ahead_of_first(book: Book, has_sheet: bool) -> usize
     book.seats + book.windows + cells + size_if(has_sheet, cells)
 }
 
-// The first seat, where it is not a seat of the book and its body starts at `at`. Its length is right by making.
-fn wrong_first(book: Book, at: usize) -> Found
-    ensures { λ r. ⌜ found r ≡ andThen (when (book .«has_first») (book .first)) (λ k. when (not (within 1 (book .seats) k)) at) ⌝ }
-{
-    if book.has_first {
-        return outside_at(1, book.seats, book.first as usize, at);
-    }
-    Found::Nothing
-}
-
-// The lines of the parts that may be missing, where the first body starts at `at`.
+// The lines of the parts that may be missing, where the first body starts at `at`. Their lengths are right by making, and one that is
+// missing has no numbers.
 fn check_options(book: Book, has_sheet: bool, at: usize) -> Check
     requires { ⌜ (book .seats ≤ 32) × (book .windows ≤ 24) × (at < 100) ⌝ }
     ensures { λ r. ⌜ ((caps sheet : Grid) → at ≡ contentsEnd (entries (slotsOf book «has_sheet»))
         → refused r ≡ firstOf (optionLines (fileWith book caps «has_sheet» sheet))) ⌝ }
 {
-    let first = wrong_first(book, at + 2 * ahead_of_first(book, has_sheet));
-    first_of(18, first, Found::Nothing, Found::Nothing)
+    let first = [book.first];
+    let p = at + 2 * ahead_of_first(book, has_sheet);
+    first_of(
+        18,
+        outside_in(&first, size_if(book.has_first, 1), p, 1, book.seats),
+        Found::Nothing,
+        Found::Nothing,
+    )
 }
 
 // All of the writer's lines but 16.
