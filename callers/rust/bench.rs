@@ -33,7 +33,7 @@ mod timing;
 #[path = "bench/worst.rs"]
 mod worst;
 
-use books::{file_of, planned, spoilt, windows_alone, with_first, Draw, KINDS};
+use books::{file_of, planned, spoilt, windows_alone, with_first, Change, Draw, BALANCES, KINDS};
 use reference::{Book, Sheet, FILE_LENGTH};
 use rng::Rng;
 use same_method::Counts;
@@ -67,7 +67,8 @@ fn all_tables() {
     let mut csv = String::from("table,case,column,microseconds\n");
     plan_table(&mut csv);
     first_table(&mut csv);
-    count_settling();
+    count_settling("the first seat changes", with_first);
+    balances_table(&mut csv);
     mark_table(&mut csv);
     better_table(&mut csv);
     file_table(&mut csv);
@@ -140,36 +141,62 @@ fn plan_table(csv: &mut String) {
     println!("{}", agreement(|_, book| book));
 }
 
-/// Planning books that name a first seat; the last column is the library on the same books without it.
+/// Planners on full-size books of one kind with something added; the last is the library on the same books without it.
+fn times_with(draw: Draw, add: Change) -> Times {
+    let mut rng = Rng::new(7);
+    let mut times = Times::default();
+    for _ in 0..BOOKS {
+        let book = draw(&mut rng, 32, 24);
+        let without = file_of(&book, None);
+        let file = file_of(&add(&mut rng, book), None);
+        let mut calls = planners(&file);
+        calls.truncate(3);
+        calls.extend(planners(&without).into_iter().take(1));
+        times.add(side_by_side(&mut calls, ROUNDS, 1));
+    }
+    times
+}
+
+/// Planning books that name a first seat, beside the same books without it.
 fn first_table(csv: &mut String) {
     let names = ["library", "plain Rust", "other method", "without it"];
     heading("plan, with any first seat", &names);
     for (kind, draw) in KINDS {
-        let mut rng = Rng::new(7);
-        let mut times = Times::default();
-        for _ in 0..BOOKS {
-            let book = draw(&mut rng, 32, 24);
-            let without = file_of(&book, None);
-            let file = file_of(&with_first(&mut rng, book), None);
-            let mut calls = planners(&file);
-            calls.truncate(3);
-            calls.extend(planners(&without).into_iter().take(1));
-            times.add(side_by_side(&mut calls, ROUNDS, 1));
-        }
-        line(csv, "first", kind, &names, &times);
+        line(csv, "first", kind, &names, &times_with(draw, with_first));
     }
     println!("{}", agreement(with_first));
 }
 
-/// What the fast parts leave to the slow ones, counted in plain Rust of the same method, on full-size books with any first seat.
-fn count_settling() {
+/// Planning books with balances of each kind, beside the same books without them.
+fn balances_table(csv: &mut String) {
+    let names = ["library", "plain Rust", "other method", "without them"];
+    heading("plan, with balances", &names);
+    let mut ratios = Vec::new();
+    for (balances, add) in BALANCES {
+        for (kind, draw) in KINDS {
+            let times = times_with(draw, add);
+            line(csv, "balances", &format!("{balances}: {kind}"), &names, &times);
+            let medians = times.medians();
+            ratios.push(medians[0] / medians[3]);
+        }
+    }
+    let (least, most) = (ratios.iter().copied().fold(f64::MAX, f64::min), ratios.iter().copied().fold(0.0, f64::max));
+    println!("With balances the library takes {least:.2} to {most:.2} times as long as without them.");
+    for (balances, add) in BALANCES {
+        println!("Balances {balances}. {}", agreement(add));
+        count_settling("balances change", add);
+    }
+}
+
+/// What the fast parts leave to the slow ones, counted in plain Rust of the same method, on full-size books with something added.
+fn count_settling(what_changes: &str, add: Change) {
     let mut rng = Rng::new(23);
     let (mut settled, mut turned, mut most) = (0, 0, 0);
     let (mut left, mut most_pushes) = (0, 0);
     for (_, draw) in KINDS {
         for _ in 0..COUNTED {
             let plain = draw(&mut rng, 32, 24);
-            let book = with_first(&mut rng, plain.clone());
+            let book = add(&mut rng, plain.clone());
             let Counts { turns: [coarse, fine, settling], work, totals } = same_method::counts(&book);
             settled += (settling > 0) as usize;
             turned += (totals != same_method::counts(&plain).totals) as usize;
@@ -180,12 +207,12 @@ fn count_settling() {
     }
     let books = KINDS.len() * COUNTED;
     println!("Settling has something to do on {settled} of {books} books, the fast start at most {most} turns;");
-    println!("on {turned} of them the first seat changes the totals.");
+    println!("on {turned} of them {what_changes} the totals.");
     println!("The fast pass to the standard sheet leaves something on {left} of them; it exchanges at most {most_pushes} times.");
 }
 
 /// A sentence on what all planners make of the same books, as they are or with something changed.
-fn agreement(change: fn(&mut Rng, Book) -> Book) -> String {
+fn agreement(change: Change) -> String {
     let mut rng = Rng::new(7);
     for (_, draw) in KINDS {
         for _ in 0..BOOKS {
@@ -321,6 +348,7 @@ fn file_table(csv: &mut String) {
     for _ in 0..BOOKS {
         let book = books::dense(&mut rng, 32, 24);
         let book = with_first(&mut rng, book);
+        let book = BALANCES[0].1(&mut rng, book);
         let sheet = planned(&book);
         let file = file_of(&book, Some(&sheet));
         let same = credits::raw::read(&file).book;
@@ -341,7 +369,7 @@ fn file_table(csv: &mut String) {
         writing.add(side_by_side(&mut writers, ROUNDS, 32));
     }
     let names = ["library", "plain Rust"];
-    heading("the longest file, 3,218 bytes", &names);
+    heading("the longest file, 3,288 bytes", &names);
     line(csv, "file", "read", &names, &reading);
     line(csv, "file", "write", &names, &writing);
 }

@@ -1,7 +1,7 @@
 //! Random books and sheets for comparing and timing.
 #![allow(dead_code)]
 
-use super::reference::{plan, read, write, Book, Sheet, FILE_LENGTH, SEATS, WINDOWS};
+use super::reference::{plan, read, write, Book, Sheet, FILE_LENGTH, MOST_BALANCE, SEATS, WINDOWS};
 use super::rng::Rng;
 
 /// Draws a book with that many seats and windows.
@@ -79,9 +79,47 @@ pub fn low_caps(rng: &mut Rng, seats: usize, windows: usize) -> Book {
     book
 }
 
+/// Gives a book something that it had not, or had otherwise.
+pub type Change = fn(&mut Rng, Book) -> Book;
+
 /// The same book with any of its seats first today.
 pub fn with_first(rng: &mut Rng, book: Book) -> Book {
     Book { first: Some(rng.between(1, book.seats) as u16), ..book }
+}
+
+/// The kinds of balances that are timed, by name.
+pub const BALANCES: [(&str, Change); 3] =
+    [("near the totals", near_balances), ("of any height", any_balances), ("few and large", large_balances)];
+
+/// Balances by seat.
+fn with_balances(rng: &mut Rng, book: Book, balance: impl Fn(&mut Rng) -> usize) -> Book {
+    let mut balances = [0; SEATS];
+    balances[..book.seats].fill_with(|| balance(rng) as u16);
+    Book { balances: Some(balances), ..book }
+}
+
+/// Balances about as high as the seats' totals are: up to twice an even share of all supplies.
+fn near_balances(rng: &mut Rng, book: Book) -> Book {
+    let supplies: usize = book.supplies[..book.windows].iter().map(|&supply| supply as usize).sum();
+    let most = (2 * supplies / book.seats).min(MOST_BALANCE as usize);
+    with_balances(rng, book, |rng| rng.between(0, most))
+}
+
+/// Any balances, up to the highest.
+fn any_balances(rng: &mut Rng, book: Book) -> Book {
+    with_balances(rng, book, |rng| rng.between(0, MOST_BALANCE as usize))
+}
+
+/// One seat in four carries much, which puts it above all others; these carry nothing.
+fn large_balances(rng: &mut Rng, book: Book) -> Book {
+    let most = MOST_BALANCE as usize;
+    with_balances(rng, book, |rng| if rng.once_in(4) { rng.between(most / 2, most) } else { 0 })
+}
+
+/// A few credits for each seat, which decide ties; at times they are all zeros.
+pub fn small_balances(rng: &mut Rng, book: Book) -> Book {
+    let most = rng.below(4);
+    with_balances(rng, book, |rng| rng.between(0, most))
 }
 
 /// The file of a book, with or without a sheet.

@@ -18,7 +18,7 @@ pub const SEATS: usize = 32;
 pub const WINDOWS: usize = 24;
 
 /// The longest day file; a buffer of this length takes every file that [`write`] and [`plan`] make.
-pub const FILE_LENGTH: usize = 3218;
+pub const FILE_LENGTH: usize = 3288;
 
 /// The length that the marker asks of its buffer: 31 moves of three bytes.
 pub const MOVES_LENGTH: usize = 93;
@@ -30,7 +30,7 @@ pub const LISTING_LENGTH: usize = 3453;
 pub type Grid = [[u16; WINDOWS]; SEATS];
 
 /// A book in memory, with its sheet if it has one. Entries beyond `seats` and `windows` are not used; [`read`] makes them 0.
-/// Where no seat is named as the first of today's order, seat 1 comes first.
+/// Where no seat is named as the first of today's order, seat 1 comes first; where there are no balances, they are zeros.
 #[derive(Clone, Debug, PartialEq, Eq)]
 pub struct Book {
     pub seats: usize,
@@ -41,6 +41,8 @@ pub struct Book {
     pub sheet: Option<Grid>,
     /// The seat that comes first today, counted from 1.
     pub first: Option<u16>,
+    /// Each seat's balance, which is what it received on earlier days.
+    pub balances: Option<[u16; SEATS]>,
 }
 
 /// Why a call turns its input away; the numbers are those of paper 01's table, which paper 02 goes on with.
@@ -64,8 +66,10 @@ pub enum Reason {
     WindowAboveSupply = 15,
     ShortBuffer = 16,
     OtherBook = 17,
-    /// Checked after `Cap` and before `NoSheet`.
+    /// Checked after `Cap` and before `Balances`.
     FirstSeat = 18,
+    /// Checked after `FirstSeat` and before `NoSheet`.
+    Balances = 19,
 }
 
 /// A reason and the offset that belongs to it. No byte of any buffer has changed.
@@ -118,7 +122,7 @@ pub enum Mark {
 }
 
 impl Reason {
-    const ALL: [Reason; 18] = [
+    const ALL: [Reason; 19] = [
         Reason::UnderTwoBytes,
         Reason::NumberOfEntries,
         Reason::EndsWithinContents,
@@ -137,6 +141,7 @@ impl Reason {
         Reason::ShortBuffer,
         Reason::OtherBook,
         Reason::FirstSeat,
+        Reason::Balances,
     ];
 
     /// The number in the table.
@@ -186,6 +191,7 @@ pub fn read(file: &[u8]) -> Result<Book, Refusal> {
         caps: book.caps,
         sheet: (book.has_sheet != 0).then_some(book.sheet),
         first: (book.has_first != 0).then_some(book.first),
+        balances: (book.has_balances != 0).then_some(book.balances),
     })
 }
 
@@ -201,6 +207,8 @@ pub fn write(book: &Book, out: &mut [u8]) -> Result<usize, Refusal> {
         sheet: book.sheet.unwrap_or([[0; WINDOWS]; SEATS]),
         has_first: book.first.is_some() as u32,
         first: book.first.unwrap_or(0),
+        has_balances: book.balances.is_some() as u32,
+        balances: book.balances.unwrap_or([0; SEATS]),
     };
     length(raw::write(raw_book, out))
 }

@@ -40,11 +40,14 @@ pub const WINDOWS: usize = 24;
 /// The highest supply and the highest cap.
 pub const MOST_CREDITS: u16 = 4095;
 
+/// The highest balance.
+pub const MOST_BALANCE: u16 = 50_000;
+
 /// The weight of each class, class 1 first.
 pub const WEIGHTS: [u16; 8] = [1, 2, 3, 5, 8, 12, 20, 40];
 
-/// The longest file: 32 seats, 24 windows, a sheet and a first seat.
-pub const FILE_LENGTH: usize = 3218;
+/// The longest file: 32 seats, 24 windows, a sheet, a first seat and balances.
+pub const FILE_LENGTH: usize = 3288;
 
 /// The marker's output buffer: 31 moves of three bytes.
 pub const MOVES_LENGTH: usize = 93;
@@ -65,6 +68,8 @@ pub struct Book {
     pub caps: Grid,
     /// The seat that comes first today, from 1; seat 1 if none is named.
     pub first: Option<u16>,
+    /// Per seat its balance, the credits received on earlier days; zeros if there are none.
+    pub balances: Option<[u16; SEATS]>,
 }
 
 impl Book {
@@ -72,7 +77,8 @@ impl Book {
     pub fn empty(seats: usize, windows: usize) -> Book {
         let mut classes = [0; SEATS];
         classes[..seats].fill(1);
-        Book { seats, windows, classes, supplies: [0; WINDOWS], caps: [[0; WINDOWS]; SEATS], first: None }
+        let (supplies, caps) = ([0; WINDOWS], [[0; WINDOWS]; SEATS]);
+        Book { seats, windows, classes, supplies, caps, first: None, balances: None }
     }
 
     /// How many seats come before this one in today's order, which runs from the first seat up to the last and on from 1.
@@ -80,6 +86,11 @@ impl Book {
     pub fn place(&self, seat: usize) -> usize {
         let first = self.first.map_or(0, |first| first as usize - 1);
         (seat + self.seats - first) % self.seats
+    }
+
+    /// Per seat the balance that it carries over; zeros where the book has none.
+    pub fn carried(&self) -> [u16; SEATS] {
+        self.balances.unwrap_or([0; SEATS])
     }
 }
 

@@ -102,6 +102,7 @@ impl Network {
 struct Levels<'a> {
     book: &'a Book,
     weights: [u64; SEATS],
+    balances: [u64; SEATS],
     totals: [u64; SEATS],
     open: [bool; SEATS],
 }
@@ -114,7 +115,7 @@ impl<'a> Levels<'a> {
         }
         let mut open = [false; SEATS];
         open[..book.seats].fill(true);
-        Levels { book, weights, totals: [0; SEATS], open }
+        Levels { book, weights, balances: book.carried().map(u64::from), totals: [0; SEATS], open }
     }
 
     /// Raises all open seats to the highest level that all can have, gives single credits in order to those that can have
@@ -129,11 +130,11 @@ impl<'a> Levels<'a> {
         self.flow(&self.totals).1
     }
 
-    /// The totals at a level, which counts in units: a seat below this level gets a further credit.
+    /// The totals at a level, which counts in units: a seat below this level gets a further credit, and one whose balance is above it none.
     fn at_level(&self, level: u64) -> [u64; SEATS] {
         let mut totals = self.totals;
         for seat in (0..self.book.seats).filter(|&seat| self.open[seat]) {
-            totals[seat] = (level * self.weights[seat]).div_ceil(UNITS);
+            totals[seat] = (level * self.weights[seat]).div_ceil(UNITS).saturating_sub(self.balances[seat]);
         }
         totals
     }
@@ -158,13 +159,13 @@ impl<'a> Levels<'a> {
     fn out_of_reach(&self, seat: usize) -> u64 {
         let most: u64 =
             self.book.caps[seat].iter().zip(&self.book.supplies).map(|(cap, supply)| *cap.min(supply) as u64).sum();
-        (most + 1) * UNITS / self.weights[seat]
+        (self.balances[seat] + most + 1) * UNITS / self.weights[seat]
     }
 
     /// One more credit for each open seat that stands at this level, the lower weight and the seat that is earlier today first.
     fn give_next(&mut self, level: u64) {
         let mut seats: Vec<usize> = (0..self.book.seats).filter(|&seat| self.open[seat]).collect();
-        seats.retain(|&seat| self.totals[seat] * UNITS == level * self.weights[seat]);
+        seats.retain(|&seat| (self.balances[seat] + self.totals[seat]) * UNITS == level * self.weights[seat]);
         seats.sort_by_key(|&seat| (self.weights[seat], self.book.place(seat)));
         for seat in seats {
             self.totals[seat] += 1;

@@ -6,7 +6,7 @@
 //! looks for an exchange that is left, and plays it, until there is none. At last the settled sheet is made standard.
 
 use super::reference::{read, write, Book, Refusal, Sheet, SEATS, WEIGHTS, WINDOWS};
-use super::same_standard::{standard, Work};
+use super::same_standard::{standard, totals, Work};
 
 /// Plans the book of a day file and writes the whole file with the standard sheet to the front of `out`.
 pub fn plan(file: &[u8], out: &mut [u8]) -> Result<usize, Refusal> {
@@ -24,12 +24,12 @@ pub fn settle_alone(file: &[u8], out: &mut [u8]) -> Result<usize, Refusal> {
 pub struct Counts {
     pub turns: [usize; 3],
     pub work: Work,
-    pub totals: [u64; SEATS],
+    pub totals: [u32; SEATS],
 }
 
 pub fn counts(book: &Book) -> Counts {
-    let Desk { turns, grid, totals, .. } = Desk::settled(book);
-    Counts { turns, work: standard(book, &grid).1, totals }
+    let Desk { turns, grid, .. } = Desk::settled(book);
+    Counts { turns, work: standard(book, &grid).1, totals: totals(&grid) }
 }
 
 /// A sheet in the making with the numbers that the method looks at.
@@ -39,7 +39,8 @@ struct Desk<'a> {
     weights: [u64; SEATS],
     /// Per seat its place in the order of the day.
     positions: [usize; SEATS],
-    totals: [u64; SEATS],
+    /// Per seat its height: balance plus total.
+    heights: [u64; SEATS],
     /// Per window the seats with room, and the seats with credits, of at least the unit.
     takers: [u32; WINDOWS],
     givers: [u32; WINDOWS],
@@ -80,7 +81,7 @@ impl<'a> Desk<'a> {
             grid: [[0; WINDOWS]; SEATS],
             weights,
             positions,
-            totals: [0; SEATS],
+            heights: book.carried().map(u64::from),
             takers: [0; WINDOWS],
             givers: [0; WINDOWS],
             turns: [0; 3],
@@ -103,7 +104,7 @@ impl<'a> Desk<'a> {
             for seat in 0..self.book.seats {
                 let credits = left.min(self.book.caps[seat][window]);
                 self.grid[seat][window] = credits;
-                self.totals[seat] += credits as u64;
+                self.heights[seat] += credits as u64;
                 left -= credits;
             }
         }
@@ -161,7 +162,7 @@ impl<'a> Desk<'a> {
     /// The seat whose next credit comes first.
     fn lowest_receiver(&self, set: u32) -> usize {
         members(set).fold(lowest(set), |best, seat| {
-            let first = self.precedes((seat, self.totals[seat]), (best, self.totals[best]));
+            let first = self.precedes((seat, self.heights[seat]), (best, self.heights[best]));
             if first {
                 seat
             } else {
@@ -172,7 +173,7 @@ impl<'a> Desk<'a> {
 
     /// The seat whose last credit comes last.
     fn highest_donor(&self, set: u32) -> usize {
-        let last = |seat: usize| (seat, self.totals[seat].saturating_sub(1));
+        let last = |seat: usize| (seat, self.heights[seat].saturating_sub(1));
         members(set).fold(lowest(set), |best, seat| if self.precedes(last(best), last(seat)) { seat } else { best })
     }
 
@@ -180,8 +181,8 @@ impl<'a> Desk<'a> {
     fn wanted(&self, receiver: usize, donor: usize) -> u64 {
         let (weight, donor_weight) = (self.weights[receiver], self.weights[donor]);
         let first = (weight, self.positions[receiver]) < (donor_weight, self.positions[donor]);
-        let gap = self.totals[donor] * weight + donor_weight;
-        let level = self.totals[receiver] * donor_weight + !first as u64;
+        let gap = self.heights[donor] * weight + donor_weight;
+        let level = self.heights[receiver] * donor_weight + !first as u64;
         (gap.saturating_sub(level) / (weight + donor_weight)).min(4095)
     }
 
@@ -227,8 +228,8 @@ impl<'a> Desk<'a> {
             self.note(taker, window, unit);
             giver = taker;
         }
-        self.totals[donor] -= credits as u64;
-        self.totals[receiver] += credits as u64;
+        self.heights[donor] -= credits as u64;
+        self.heights[receiver] += credits as u64;
     }
 
     /// Plays exchanges that improve or tie wrongly, one credit each, until the marker's search finds none.
@@ -282,14 +283,14 @@ impl<'a> Desk<'a> {
 
     fn improves(&self, receiver: usize, donor: usize) -> bool {
         let (weight, donor_weight) = (self.weights[receiver], self.weights[donor]);
-        let low = self.totals[receiver] * donor_weight + weight;
-        let high = self.totals[donor] * weight;
+        let low = self.heights[receiver] * donor_weight + weight;
+        let high = self.heights[donor] * weight;
         low < high || low == high && weight < donor_weight
     }
 
     fn ties_wrongly(&self, receiver: usize, donor: usize) -> bool {
         self.weights[receiver] == self.weights[donor]
-            && self.totals[donor] == self.totals[receiver] + 1
+            && self.heights[donor] == self.heights[receiver] + 1
             && self.positions[receiver] < self.positions[donor]
     }
 }

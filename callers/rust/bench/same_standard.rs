@@ -35,7 +35,8 @@ pub fn standard(book: &Book, settled: &Sheet) -> (Sheet, Work) {
     (raising.grid, Work { searches, pushes, left: raising.searches })
 }
 
-fn totals(grid: &Sheet) -> [u32; SEATS] {
+/// What each seat has.
+pub fn totals(grid: &Sheet) -> [u32; SEATS] {
     grid.map(|row| row.iter().map(|&cell| cell as u32).sum())
 }
 

@@ -2,7 +2,7 @@
 
 use std::arch::asm;
 
-use super::books::{file_of, planned, windows_alone, with_first, KINDS};
+use super::books::{file_of, planned, windows_alone, with_first, BALANCES, KINDS};
 use super::rng::Rng;
 use super::{credits, LADDER};
 
@@ -44,9 +44,12 @@ pub fn report() {
     let mut rng = Rng::new(19);
     let mut files = vec![LADDER.to_vec()];
     for (_, draw) in KINDS {
-        let book = draw(&mut rng, 32, 24);
-        let book = with_first(&mut rng, book);
-        files.extend([planned(&book), windows_alone(&book, 0)].map(|sheet| file_of(&book, Some(&sheet))));
+        for (_, add_balances) in BALANCES {
+            let book = draw(&mut rng, 32, 24);
+            let book = with_first(&mut rng, book);
+            let book = add_balances(&mut rng, book);
+            files.extend([planned(&book), windows_alone(&book, 0)].map(|sheet| file_of(&book, Some(&sheet))));
+        }
     }
     for (name, call) in CALLS {
         let most = files.iter().map(|file| used(call, file)).max().unwrap_or(0);

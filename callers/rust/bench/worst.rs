@@ -6,9 +6,9 @@
 
 use std::time::{Duration, Instant};
 
-use super::books::file_of;
+use super::books::{file_of, BALANCES};
 use super::credits;
-use super::reference::{Book, FILE_LENGTH, SEATS};
+use super::reference::{Book, FILE_LENGTH, MOST_BALANCE, MOST_CREDITS, SEATS};
 use super::rng::Rng;
 use super::same_method::{counts, Counts};
 use super::timing::median;
@@ -46,7 +46,7 @@ pub fn search(seconds: u64) {
     let (mut longest, mut climbs) = (0.0, 0);
     while Instant::now() < end {
         let (name, cost) = COSTS[climbs % COSTS.len()];
-        let draw = [any_book, level_book][climbs / COSTS.len() % 2];
+        let draw = [any_book, level_book, loaded_book][climbs / COSTS.len() % 3];
         let books = (0..1000).map(|_| draw(&mut rng));
         let start = books.max_by_key(|book| met.cost(book, cost)).expect("1000 books");
         let until = end.min(Instant::now() + Duration::from_secs(seconds.div_ceil(12)));
@@ -73,7 +73,7 @@ fn took(book: &Book) -> String {
 }
 
 /// A book with caps and supplies of any size: how high, how many and how scarce is drawn for the whole book. Half of the books name a first
-/// seat.
+/// seat, and half have balances.
 fn any_book(rng: &mut Rng) -> Book {
     let mut book = Book::empty(32, 24);
     let (highest, one_in, sixteenths) = (1 << rng.below(13), rng.between(1, 8), rng.between(1, 16));
@@ -89,7 +89,11 @@ fn any_book(rng: &mut Rng) -> Book {
         book.supplies[window] = (caps * sixteenths / 16).min(4095) as u16;
     }
     book.first = rng.once_in(2).then(|| rng.between(1, 32) as u16);
-    book
+    if rng.once_in(2) {
+        BALANCES[rng.below(BALANCES.len())].1(rng, book)
+    } else {
+        book
+    }
 }
 
 /// A book of one class in which few totals differ: there is so little that no seat's caps keep it below the others.
@@ -99,6 +103,20 @@ fn level_book(rng: &mut Rng) -> Book {
     let supply: usize = rng.below(least + 1) * SEATS / book.windows;
     book.supplies[..book.windows].fill(supply.min(4095) as u16);
     book
+}
+
+/// A book in which some seats have large balances, no two of them equal, and low caps: they have few credits, which all others are to have,
+/// so that many small exchanges are needed.
+fn loaded_book(rng: &mut Rng) -> Book {
+    let mut book = any_book(rng);
+    let (mut balances, most, one_in) = (book.carried(), rng.between(1, 70), rng.between(2, 4));
+    for seat in 0..SEATS {
+        if rng.once_in(one_in) {
+            balances[seat] = MOST_BALANCE - (100 * seat + rng.below(100)) as u16;
+            book.caps[seat][..book.windows].fill_with(|| rng.between(1, most) as u16);
+        }
+    }
+    Book { balances: Some(balances), ..book }
 }
 
 impl Met {
@@ -128,26 +146,30 @@ fn climb(rng: &mut Rng, met: &mut Met, cost: Cost, mut book: Book, end: Instant)
     (book, changes)
 }
 
-/// Another class, supply, cap or first seat, or two seats' caps in a window the other way round.
+/// Another class, supply, cap, first seat or balance, or two seats' caps in a window the other way round.
 fn change(rng: &mut Rng, book: &mut Book) {
     let (seat, other, window) = (rng.below(book.seats), rng.below(book.seats), rng.below(book.windows));
     let cap = book.caps[seat][window];
-    match rng.below(9) {
+    match rng.below(11) {
         0 => book.classes[seat] = rng.between(1, 8) as u16,
-        1 => book.supplies[window] = credits_near(rng, book.supplies[window]),
+        1 => book.supplies[window] = credits_near(rng, book.supplies[window], MOST_CREDITS),
         2 => book.caps[seat].swap(window, rng.below(book.windows)),
         3 => (book.caps[seat][window], book.caps[other][window]) = (book.caps[other][window], cap),
         4 => book.caps[seat][window] = 0,
         5 => book.first = Some(seat as u16 + 1),
-        _ => book.caps[seat][window] = credits_near(rng, cap),
+        6 | 7 => {
+            let balances = book.balances.get_or_insert([0; SEATS]);
+            balances[seat] = credits_near(rng, balances[seat], MOST_BALANCE);
+        }
+        _ => book.caps[seat][window] = credits_near(rng, cap, MOST_CREDITS),
     }
 }
 
 /// Any number of credits, or one that is near.
-fn credits_near(rng: &mut Rng, credits: u16) -> u16 {
+fn credits_near(rng: &mut Rng, credits: u16, most: u16) -> u16 {
     let near = (credits as usize + rng.below(17)).saturating_sub(8);
-    let any = 1 << rng.below(13);
-    (if rng.once_in(2) { near } else { rng.below(any) }).min(4095) as u16
+    let any = 1 << rng.below(most.ilog2() as usize + 2);
+    (if rng.once_in(2) { near } else { rng.below(any) }).min(most as usize) as u16
 }
 
 /// The median of many runs in the library, in microseconds.

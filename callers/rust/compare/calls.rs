@@ -21,11 +21,17 @@ pub const NOTHING: raw::Book = raw::Book {
     sheet: [[0; WINDOWS]; SEATS],
     has_first: 0,
     first: 0,
+    has_balances: 0,
+    balances: [0; SEATS],
 };
 
 /// What a planned file's first seat can do, by place in the count.
 pub const FIRST_SEATS: [&str; 3] =
     ["without a first seat", "with one that changes no total", "with one that changes totals"];
+
+/// What a planned file's balances can do, by place in the count.
+pub const BALANCES: [&str; 4] =
+    ["without balances", "with zeros", "with some that change no total", "with some that change totals"];
 
 /// Whether the plain version's settled sheet had other cells before it was made standard, by place in the count.
 pub const STANDARDS: [&str; 2] = ["as first settled", "with other cells than first settled"];
@@ -58,6 +64,8 @@ pub fn raw_book(book: &Book, sheet: Option<&Sheet>) -> raw::Book {
         sheet: sheet.copied().unwrap_or(NOTHING.sheet),
         has_first: book.first.is_some() as u32,
         first: book.first.unwrap_or(0),
+        has_balances: book.balances.is_some() as u32,
+        balances: book.carried(),
     }
 }
 
@@ -123,7 +131,7 @@ fn plan(rng: &mut Rng, seen: &mut Seen, file: &[u8]) -> Result<(), String> {
     Ok(())
 }
 
-/// The library gives its own plan mark 4. Counts what the first seat and the step to the standard sheet did to the plan.
+/// The library gives its own plan mark 4. Counts what the first seat, balances and the step to the standard sheet did to the plan.
 fn check_plan(seen: &mut Seen, planned: &[u8]) -> Result<(), String> {
     let settled = raw::MarkResult { refusal: 0, offset: 0, mark: 4, window: 0, seat: 0, moves: 0 };
     same("plan: the mark", raw::mark(planned, &mut [0; MOVES_LENGTH]), settled)?;
@@ -131,6 +139,7 @@ fn check_plan(seen: &mut Seen, planned: &[u8]) -> Result<(), String> {
         return Err("plan: not a file with a sheet".to_string());
     };
     seen.first_seats[what_first_does(&book, &sheet)] += 1;
+    seen.balances[what_balances_do(&book, &sheet)] += 1;
     seen.standards[(settled_sheet(&book) != sheet) as usize] += 1;
     Ok(())
 }
@@ -140,8 +149,21 @@ fn what_first_does(book: &Book, settled: &Sheet) -> usize {
     if book.first.is_none() {
         return 0;
     }
-    let without = books::planned(&Book { first: None, ..book.clone() });
-    1 + (totals(book, &without) != totals(book, settled)) as usize
+    1 + has_other_totals(&Book { first: None, ..book.clone() }, settled) as usize
+}
+
+/// Whether the book has balances, whether any is not 0, and whether its settled totals are others than those without them.
+fn what_balances_do(book: &Book, settled: &Sheet) -> usize {
+    match book.balances {
+        None => 0,
+        Some(balances) if balances == NOTHING.balances => 1,
+        _ => 2 + has_other_totals(&Book { balances: None, ..book.clone() }, settled) as usize,
+    }
+}
+
+/// Whether a book's settled totals are others than those of a sheet.
+fn has_other_totals(book: &Book, sheet: &Sheet) -> bool {
+    totals(book, &books::planned(book)) != totals(book, sheet)
 }
 
 fn listing(rng: &mut Rng, file: &[u8]) -> Result<(), String> {

@@ -64,9 +64,10 @@ pub fn totals(book: &Book, sheet: &Sheet) -> Vec<u32> {
 
 /// The levels, lowest first, all times 120, which is a multiple of every weight.
 pub fn list(book: &Book, sheet: &Sheet) -> Vec<u32> {
-    let weight = |class: u16| WEIGHTS[class as usize - 1] as u32;
-    let levels = totals(book, sheet).into_iter().zip(book.classes).map(|(total, class)| total * 120 / weight(class));
-    let mut levels: Vec<u32> = levels.collect();
+    let (balances, totals) = (book.carried(), totals(book, sheet));
+    let weight = |seat: usize| WEIGHTS[book.classes[seat] as usize - 1] as u32;
+    let level = |seat: usize| (balances[seat] as u32 + totals[seat]) * 120 / weight(seat);
+    let mut levels: Vec<u32> = (0..book.seats).map(level).collect();
     levels.sort();
     levels
 }

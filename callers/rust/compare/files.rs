@@ -1,6 +1,6 @@
 //! Day files: accepted ones, damaged ones and noise.
 
-use super::books::{file_of, planned, same_totals, spoilt, windows_alone, with_first, KINDS};
+use super::books::{file_of, planned, same_totals, small_balances, spoilt, windows_alone, with_first, BALANCES, KINDS};
 use super::reference::{Book, Sheet, SEATS, WINDOWS};
 use super::rng::Rng;
 
@@ -10,7 +10,7 @@ const LADDER: &[u8] = include_bytes!("../../../examples/full-ladder.day");
 pub const NO_CREDITS: Sheet = [[0; WINDOWS]; SEATS];
 
 /// Values at which something changes.
-const EDGES: [u16; 16] = [0, 1, 2, 3, 4, 5, 8, 9, 24, 26, 48, 50, 64, 66, 4095, 4096];
+const EDGES: [u16; 20] = [0, 1, 2, 3, 4, 5, 6, 7, 8, 9, 24, 26, 48, 50, 64, 66, 4095, 4096, 50_000, 50_001];
 
 pub fn draw(rng: &mut Rng) -> Vec<u8> {
     match rng.below(12) {
@@ -34,7 +34,7 @@ pub fn size(rng: &mut Rng) -> (usize, usize) {
     }
 }
 
-/// Any kind of book, half of them with a first seat.
+/// Any kind of book, half of them with a first seat, and half with balances.
 pub fn book(rng: &mut Rng) -> Book {
     let (seats, windows) = size(rng);
     let mut book = KINDS[rng.below(KINDS.len())].1(rng, seats, windows);
@@ -45,7 +45,8 @@ pub fn book(rng: &mut Rng) -> Book {
         book.supplies.iter_mut().for_each(|supply| *supply %= (most * seats) as u16 + 1);
         book.classes.iter_mut().for_each(|class| *class = (*class).min(last_class as u16));
     }
-    any_first(rng, book)
+    let book = any_first(rng, book);
+    any_balances(rng, book)
 }
 
 /// Half of the books name a first seat, which is any of theirs.
@@ -57,10 +58,19 @@ pub fn any_first(rng: &mut Rng, book: Book) -> Book {
     }
 }
 
+/// Half of the books have balances, of any kind.
+pub fn any_balances(rng: &mut Rng, book: Book) -> Book {
+    match rng.below(8) {
+        0..=3 => Book { balances: None, ..book },
+        4 => small_balances(rng, book),
+        kind => BALANCES[kind - 5].1(rng, book),
+    }
+}
+
 /// A sheet as one may hand it in.
 pub fn sheet(rng: &mut Rng, book: &Book) -> Sheet {
     let first = rng.below(book.seats);
-    match rng.below(13) {
+    match rng.below(14) {
         0 => planned(book),
         1 => windows_alone(book, first),
         2 => spoilt(rng, book, &windows_alone(book, first), 100, 100),
@@ -74,6 +84,8 @@ pub fn sheet(rng: &mut Rng, book: &Book) -> Sheet {
         10 => with_other_cells(rng, book, &planned(book)),
         // Settled as well, and mostly not the standard sheet.
         11 => same_totals(rng, book, &planned(book)),
+        // Settled with other balances, or with none.
+        12 => planned(&any_balances(rng, book.clone())),
         _ => with_other_cells(rng, book, &NO_CREDITS),
     }
 }
@@ -100,7 +112,7 @@ fn accepted(rng: &mut Rng) -> Vec<u8> {
     file_of(&book, sheet.as_ref())
 }
 
-/// A file with bytes flipped, fields changed (the last one, too, which may be the first seat), its end cut off or grown.
+/// A file with bytes flipped, fields changed (the last one, too, which may be the first seat or a balance), its end cut off or grown.
 pub fn damaged(rng: &mut Rng, mut file: Vec<u8>) -> Vec<u8> {
     for _ in 0..rng.between(1, 3) {
         let length = file.len();
@@ -110,7 +122,7 @@ pub fn damaged(rng: &mut Rng, mut file: Vec<u8>) -> Vec<u8> {
         match rng.below(7) {
             0 => file[rng.below(length)] ^= 1 << rng.below(8),
             1 => set_field(&mut file, 2 * rng.below(length / 2), EDGES[rng.below(EDGES.len())]),
-            2 => set_field(&mut file, 2 * rng.below(16.min(length / 2)), rng.below(65536) as u16),
+            2 => set_field(&mut file, 2 * rng.below(19.min(length / 2)), rng.below(65536) as u16),
             3 => file.truncate(rng.below(length + 1)),
             4 => file.truncate(length - rng.between(1, 2)),
             5 => set_field(&mut file, length - 2, EDGES[rng.below(EDGES.len())]),
@@ -134,7 +146,11 @@ fn parts(rng: &mut Rng) -> Vec<u8> {
     let mut parts = vec![(1, fields(rng, seats, 8)), (2, fields(rng, windows, 4095))];
     parts.push((3, fields(rng, seats * windows, 4095)));
     for kind in optional_kinds(rng) {
-        let body = if kind == 4 { fields(rng, seats * windows, 4095) } else { fields(rng, 1, seats) };
+        let body = match kind {
+            4 => fields(rng, seats * windows, 4095),
+            6 => fields(rng, seats, 50_000),
+            _ => fields(rng, 1, seats),
+        };
         parts.push((kind, body));
     }
     if rng.once_in(2) {
@@ -156,14 +172,12 @@ fn other_length(rng: &mut Rng, length: usize) -> usize {
 
 /// The kinds after kind 3: mostly in order, and at times turned round, twice, unknown or one too many.
 fn optional_kinds(rng: &mut Rng) -> Vec<usize> {
-    let wrong = [&[5, 4][..], &[5, 5], &[4, 4], &[6], &[4, 6], &[5, 6], &[3, 5], &[4, 5, 6], &[5, 5, 5]];
-    match rng.below(9) {
-        0 => wrong[rng.below(wrong.len())].to_vec(),
-        1 | 2 => vec![],
-        3 | 4 => vec![4],
-        5 | 6 => vec![5],
-        _ => vec![4, 5],
-    }
+    let turned = [&[5, 4][..], &[6, 4], &[6, 5], &[4, 6, 5], &[3, 5]];
+    let twice = [&[4, 4][..], &[5, 5], &[6, 6], &[4, 6, 6], &[5, 5, 5]];
+    let unknown = [&[7][..], &[4, 7], &[6, 7], &[4, 5, 7], &[4, 5, 6, 7]];
+    let right = [&[][..], &[4], &[5], &[6], &[4, 5], &[4, 6], &[5, 6], &[4, 5, 6]];
+    let lists = if rng.once_in(9) { [turned, twice, unknown].concat() } else { right.to_vec() };
+    lists[rng.below(lists.len())].to_vec()
 }
 
 /// That many fields from 1 to `most`, one in some hundred just beyond.
@@ -198,7 +212,7 @@ fn noise(rng: &mut Rng) -> Vec<u8> {
     };
     let mut file: Vec<u8> = (0..length).map(|_| rng.below(256) as u8).collect();
     if length >= 2 && !rng.once_in(8) {
-        file[..2].copy_from_slice(&[rng.between(3, 5) as u8, 0]);
+        file[..2].copy_from_slice(&[rng.between(3, 6) as u8, 0]);
     }
     file
 }

@@ -5,7 +5,9 @@ use super::calls::same;
 use super::chain::{list, moves, play};
 use super::credits::raw;
 use super::files::{self, NO_CREDITS};
-use super::reference::{self, feasible, Book, PairRefusal, Sheet, MOST_CREDITS, MOVES_LENGTH, SEATS, WEIGHTS, WINDOWS};
+use super::reference::{
+    self, feasible, Book, PairRefusal, Sheet, MOST_BALANCE, MOST_CREDITS, MOVES_LENGTH, SEATS, WEIGHTS, WINDOWS,
+};
 use super::rng::Rng;
 use super::Seen;
 
@@ -15,9 +17,10 @@ pub type Pair = [Vec<u8>; 2];
 /// A book and a lawful sheet of it.
 type Day = (Book, Sheet);
 
-/// What may come of a pair: the file of a refusal has its number as place, then come the orders of the lists. The last two count pairs
-/// again, of which neither file is refused: those with other first seats, and those that have nothing else different.
-pub const OUTCOMES: [&str; 8] = [
+/// What may come of a pair: the file of a refusal has its number as place, then come the orders of the lists. The others count pairs again.
+/// Of one book are those with other first seats, those that have nothing else different, and those in which zeros stand against no
+/// balances. Of two books are those that differ in balances alone, and those of them in which one has no balances.
+pub const OUTCOMES: [&str; 11] = [
     "books differ",
     "first refused",
     "second refused",
@@ -26,9 +29,15 @@ pub const OUTCOMES: [&str; 8] = [
     "first list higher",
     "other first seats",
     "only first seats differ",
+    "zeros against no balances",
+    "only balances differ",
+    "other balances against none",
 ];
 const OTHER_FIRST: usize = 6;
 const ONLY_FIRST: usize = 7;
+const ZEROS_OR_NONE: usize = 8;
+const OTHER_BALANCES: usize = 9;
+const BALANCES_OR_NONE: usize = 10;
 
 pub fn draw(rng: &mut Rng) -> Pair {
     if rng.once_in(12) {
@@ -54,9 +63,12 @@ pub fn draw(rng: &mut Rng) -> Pair {
             [(book.clone(), sheet), (book, other.unwrap_or(sheet))]
         }
     };
-    // Other first seats make no other book.
+    // Other first seats make no other book, nor do zeros.
     if rng.once_in(2) {
         days = days.map(|(book, sheet)| (files::any_first(rng, book), sheet));
+    }
+    if rng.once_in(2) {
+        days = days.map(|(book, sheet)| (zeros_or_none(rng, book), sheet));
     }
     if rng.once_in(2) {
         days.swap(0, 1);
@@ -64,6 +76,13 @@ pub fn draw(rng: &mut Rng) -> Pair {
     // Faults come together, so that the refusals of two files often meet.
     let one_in = if rng.once_in(4) { 2 } else { 50 };
     days.map(|(book, sheet)| handed_in(rng, one_in, &book, &sheet))
+}
+
+/// The same book with zeros or without them, if it has no other balances.
+fn zeros_or_none(rng: &mut Rng, book: Book) -> Book {
+    let zeros = [0; SEATS];
+    let balances = if book.carried() == zeros { rng.once_in(2).then_some(zeros) } else { book.balances };
+    Book { balances, ..book }
 }
 
 /// The day's file; at times without its sheet, with other cells, damaged, or any file at all.
@@ -125,57 +144,75 @@ fn one_credit_less(rng: &mut Rng, sheet: &Sheet) -> Sheet {
     sheet
 }
 
-/// Two seats of one class and the same caps, the other way round in the other sheet.
+/// Two seats of one class, with the same caps and the same balance, the other way round in the other sheet.
 fn like_seats(rng: &mut Rng) -> [Day; 2] {
     let mut book = files::book(rng);
     let (seat, other) = (rng.below(book.seats), rng.below(book.seats));
     book.classes[other] = book.classes[seat];
     book.caps[other] = book.caps[seat];
+    if let Some(balances) = &mut book.balances {
+        balances[other] = balances[seat];
+    }
     let sheet = lawful(rng, &book);
     let mut swapped = sheet;
     swapped.swap(seat, other);
     [(book.clone(), sheet), (book, swapped)]
 }
 
-/// The same whole levels dealt out to other seats, whose totals differ where their weights do; at times a credit is missing.
+/// The same whole levels dealt out to other seats, whose totals differ where their weights do; at times a credit is missing, and at times
+/// a part of what a seat has in both sheets is its balance.
 fn levels_dealt(rng: &mut Rng) -> [Day; 2] {
     let (seats, windows) = files::size(rng);
     let mut book = full_caps(rng, seats, windows);
     book.supplies[..windows].fill(MOST_CREDITS);
     let mut levels: Vec<u16> = (0..seats).map(|_| rng.below(4) as u16).collect();
-    let sheets = [0; 2].map(|_| {
+    let dealt = [0; 2].map(|_| {
+        levels.rotate_left(rng.below(seats));
+        let height = |seat: usize| levels[seat] * WEIGHTS[book.classes[seat] as usize - 1];
+        (0..seats).map(height).collect::<Vec<_>>()
+    });
+    if rng.once_in(2) {
+        let balances = book.balances.insert([0; SEATS]);
+        for seat in 0..seats {
+            balances[seat] = rng.between(0, dealt[0][seat].min(dealt[1][seat]) as usize) as u16;
+        }
+    }
+    let (balances, missing) = (book.carried(), rng.once_in(2));
+    dealt.map(|heights| {
         let mut sheet = NO_CREDITS;
         for seat in 0..seats {
-            sheet[seat][rng.below(windows)] = levels[seat] * WEIGHTS[book.classes[seat] as usize - 1];
+            sheet[seat][rng.below(windows)] = heights[seat] - balances[seat];
         }
-        levels.rotate_left(rng.below(seats));
-        sheet
-    });
-    let missing = rng.once_in(2);
-    sheets.map(|sheet| (book.clone(), if missing { one_credit_less(rng, &sheet) } else { sheet }))
+        (book.clone(), if missing { one_credit_less(rng, &sheet) } else { sheet })
+    })
 }
 
-/// Another book with the same sheet, as far as there is room for it: another number, a seat or a window more; or any day.
+/// Another book with the same sheet, as far as there is room for it: another number, no balances, a seat or a window more; or any day.
 fn other_book(rng: &mut Rng, (mut book, sheet): Day) -> Day {
     let (seat, window) = (rng.below(book.seats), rng.below(book.windows));
     let class = book.classes[seat] as usize;
-    match rng.below(6) {
+    match rng.below(8) {
         0 => book.classes[seat] = ((class + rng.below(7)) % 8 + 1) as u16,
-        1 => book.supplies[window] = next_to(rng, book.supplies[window]),
-        2 => book.caps[seat][window] = next_to(rng, book.caps[seat][window]),
-        3 if book.seats < SEATS => {
+        1 => book.supplies[window] = next_to(rng, book.supplies[window], MOST_CREDITS),
+        2 => book.caps[seat][window] = next_to(rng, book.caps[seat][window], MOST_CREDITS),
+        3 => book.balances = None,
+        4 => {
+            let balances = book.balances.get_or_insert([0; SEATS]);
+            balances[seat] = next_to(rng, balances[seat], MOST_BALANCE);
+        }
+        5 if book.seats < SEATS => {
             book.classes[book.seats] = class as u16;
             book.seats += 1;
         }
-        4 if book.windows < WINDOWS => book.windows += 1,
+        6 if book.windows < WINDOWS => book.windows += 1,
         _ => return any_day(rng),
     }
     (book, sheet)
 }
 
 /// One more, or at times one less, with which the sheet may not be lawful.
-fn next_to(rng: &mut Rng, credits: u16) -> u16 {
-    if credits == MOST_CREDITS || credits > 0 && rng.once_in(4) {
+fn next_to(rng: &mut Rng, credits: u16, most: u16) -> u16 {
+    if credits == most || credits > 0 && rng.once_in(4) {
         credits - 1
     } else {
         credits + 1
@@ -216,25 +253,31 @@ pub fn better(seen: &mut Seen, pair: &Pair) -> Result<(), String> {
     same("better: the files", pair, &before)?;
     seen.refusals[refusal as usize] += 1;
     seen.pairs[if refusal == 0 { check_choice(pair, &library)? } else { file as usize }] += 1;
-    check_first_seats(seen, pair, &library)
+    check_optional(seen, pair, &library)
 }
 
-/// Files of one book are not turned away for the first seats that they name.
-fn check_first_seats(seen: &mut Seen, pair: &Pair, library: &raw::BetterResult) -> Result<(), String> {
-    let [Ok((book, sheet)), Ok((mut other_book, other))] = [0, 1].map(|place| reference::read(&pair[place])) else {
+/// Files of one book are not turned away for the first seats that they name, nor for zeros in one of them; but for other balances they are.
+fn check_optional(seen: &mut Seen, pair: &Pair, library: &raw::BetterResult) -> Result<(), String> {
+    let [Ok((book, sheet)), Ok((other_book, other))] = [0, 1].map(|place| reference::read(&pair[place])) else {
         return Ok(());
     };
-    let differ = book.first != other_book.first;
-    other_book.first = book.first;
-    if !differ || book != other_book {
+    let without = |book: &Book| Book { first: None, balances: None, ..book.clone() };
+    if without(&book) != without(&other_book) {
         return Ok(());
     }
-    same("better, with other first seats: refused by 17", library.refusal == 17, false)?;
-    if library.refusal == 0 {
-        seen.pairs[OTHER_FIRST] += 1;
-        seen.pairs[ONLY_FIRST] += (sheet == other) as usize;
+    let one_has_none = book.balances.is_some() != other_book.balances.is_some();
+    if book.carried() != other_book.carried() {
+        seen.pairs[OTHER_BALANCES] += (library.refusal == 17) as usize;
+        seen.pairs[BALANCES_OR_NONE] += (library.refusal == 17 && one_has_none) as usize;
+        return same("better, with other balances: a choice", library.refusal == 0, false);
     }
-    Ok(())
+    if library.refusal == 0 {
+        let other_first = book.first != other_book.first;
+        seen.pairs[OTHER_FIRST] += other_first as usize;
+        seen.pairs[ONLY_FIRST] += (other_first && !one_has_none && sheet == other) as usize;
+        seen.pairs[ZEROS_OR_NONE] += one_has_none as usize;
+    }
+    same("better, with one book: refused by 17", library.refusal == 17, false)
 }
 
 /// The body has the cells of that file's sheet, and the order of the lists gives that file. Gives the order's place.

@@ -5,7 +5,7 @@
 use std::mem::offset_of;
 
 /// A book by value. `has_sheet` is 0 where the file has no sheet, and then the sheet's cells are 0; `has_first` is 0 where it names no
-/// first seat, and then `first` is 0.
+/// first seat, and then `first` is 0; `has_balances` is 0 where it has no balances, and then all of `balances` are 0.
 #[derive(Clone, Copy, Debug, PartialEq, Eq)]
 #[repr(C)]
 pub struct Book {
@@ -18,6 +18,8 @@ pub struct Book {
     pub sheet: [[u16; 24]; 32],
     pub has_first: u32,
     pub first: u16,
+    pub has_balances: u32,
+    pub balances: [u16; 32],
 }
 
 /// Refusal 0 means none; at a refusal the book is all 0.
@@ -62,8 +64,9 @@ pub struct BetterResult {
 }
 
 // The sizes that include/credits.h gives these structs on a 64-bit machine.
-const _: () = assert!(size_of::<Book>() == 3216 && size_of::<ReadResult>() == 3232);
+const _: () = assert!(size_of::<Book>() == 3280 && size_of::<ReadResult>() == 3296);
 const _: () = assert!(offset_of!(Book, has_first) == 3204 && offset_of!(Book, first) == 3208);
+const _: () = assert!(offset_of!(Book, has_balances) == 3212 && offset_of!(Book, balances) == 3216);
 const _: () = assert!(size_of::<MarkResult>() == 32 && size_of::<WriteResult>() == 24);
 const _: () = assert!(size_of::<BetterResult>() == 40);
 

@@ -1,5 +1,5 @@
-//! The wrapper against the library: paper 01's examples, the standard sheet, first seats, refusals, short and empty buffers, calls side by
-//! side.
+//! The wrapper against the library: paper 01's examples, the standard sheet, first seats, balances, refusals, short and empty buffers,
+//! calls side by side.
 
 use super::*;
 
@@ -22,6 +22,7 @@ fn book(supplies: &[u16], caps: &[&[u16]], sheet: Option<&[&[u16]]>) -> Book {
         caps: grid(caps),
         sheet: sheet.map(grid),
         first: None,
+        balances: None,
     };
     book.classes[..caps.len()].fill(1);
     book.supplies[..supplies.len()].copy_from_slice(supplies);
@@ -151,6 +152,66 @@ fn first_seats_that_are_not_in_the_book() {
     assert_eq!(out[..length], file_of(&k3(None, None)));
 }
 
+/// Balances of the first seats; the others have none.
+fn row(balances: &[u16]) -> [u16; SEATS] {
+    let mut row = [0; SEATS];
+    row[..balances.len()].copy_from_slice(balances);
+    row
+}
+
+/// K5 with these balances.
+fn k5(balances: Option<&[u16]>, sheet: Option<&[&[u16]]>) -> Book {
+    let mut book = book(&[4], &[&[4], &[4]], sheet);
+    book.classes[1] = 2;
+    Book { balances: balances.map(row), ..book }
+}
+
+#[test]
+fn levels_are_of_balance_plus_total_and_balances_are_kept() {
+    let cases: [(Option<&[u16]>, _); 4] =
+        [(None, [2, 2]), (Some(&[0, 0]), [2, 2]), (Some(&[0, 4]), [3, 1]), (Some(&[50_000, 0]), [0, 4])];
+    for (balances, [one, other]) in cases {
+        let fair = k5(balances, Some(&[&[one], &[other]]));
+        assert_eq!(planned(&file_of(&k5(balances, None))), file_of(&fair));
+        assert_eq!(mark(&file_of(&fair)), Ok(Mark::Settled));
+    }
+    // What is settled without balances can be improved with them, and the other way round.
+    let chain = |giver, taker| Mark::Improvable { chain: vec![Move { window: 1, giver, taker }] };
+    assert_eq!(mark(&file_of(&k5(Some(&[0, 4]), Some(&[&[2], &[2]])))), Ok(chain(2, 1)));
+    assert_eq!(mark(&file_of(&k5(None, Some(&[&[3], &[1]])))), Ok(chain(1, 2)));
+    // K3 with equal heights, and with a tie that goes against the seat rule.
+    let k3 = |balances| Book { balances: Some(row(balances)), ..k3(None, Some(&[&[1], &[2]])) };
+    assert_eq!(mark(&file_of(&k3(&[1, 0]))), Ok(Mark::Settled));
+    assert_eq!(mark(&file_of(&k3(&[2, 2]))), Ok(Mark::Tied { chain: vec![Move { window: 1, giver: 2, taker: 1 }] }));
+}
+
+#[test]
+fn balances_that_are_too_high() {
+    let mut out = [0xee; FILE_LENGTH];
+    for balance in [50_001, 65535] {
+        let sheet: Option<&[&[u16]]> = Some(&[&[9], &[9]]);
+        for (sheet, at) in [(None, 36), (sheet, 46)] {
+            assert_eq!(write(&k5(Some(&[balance, balance]), sheet), &mut out), refused(Reason::Balances, at));
+            assert_eq!(write(&k5(Some(&[50_000, balance]), sheet), &mut out), refused(Reason::Balances, at + 2));
+            let mut file = file_of(&k5(Some(&[50_000, 50_000]), sheet));
+            file[at + 2..].copy_from_slice(&balance.to_le_bytes());
+            assert_eq!(read(&file), refused(Reason::Balances, at + 2));
+            assert_eq!(mark(&file), refused(Reason::Balances, at + 2));
+            assert_eq!(plan(&file, &mut out), refused(Reason::Balances, at + 2));
+        }
+    }
+    assert!(out.iter().all(|&byte| byte == 0xee));
+    let none = raw::read(&file_of(&k5(None, None))).book;
+    assert_eq!((none.has_balances, none.balances), (0, row(&[])));
+    let some = raw::read(&file_of(&k5(Some(&[0, 4]), None))).book;
+    assert_eq!((some.has_balances, some.balances), (1, row(&[0, 4])));
+    // Neither balances that are not there are looked at, nor those of seats that are not in the book.
+    let length = raw::write(raw::Book { balances: [65535; SEATS], ..none }, &mut out).length;
+    assert_eq!(out[..length], file_of(&k5(None, None)));
+    let length = raw::write(raw::Book { balances: row(&[0, 4, 65535]), ..some }, &mut out).length;
+    assert_eq!(out[..length], file_of(&k5(Some(&[0, 4]), None)));
+}
+
 #[test]
 fn files_written_read_back() {
     let mut large = book(&[4095; WINDOWS], &[&[4095; WINDOWS][..]; SEATS], None);
@@ -158,8 +219,10 @@ fn files_written_read_back() {
     let full = Book { sheet: Some([[65535; WINDOWS]; SEATS]), ..large.clone() };
     for book in [k8(None), k8(K8_SHEET), large, full] {
         for first in [None, Some(1), Some(book.seats as u16)] {
-            let book = Book { first, ..book.clone() };
-            assert_eq!(read(&file_of(&book)), Ok(book));
+            for balances in [None, Some(row(&[])), Some(row(&[50_000, 1]))] {
+                let book = Book { first, balances, ..book.clone() };
+                assert_eq!(read(&file_of(&book)), Ok(book));
+            }
         }
     }
     assert_eq!(read(&K11), Ok(book(&[3], &[&[2]], None)));
@@ -225,15 +288,18 @@ fn empty_input_and_empty_buffers() {
     let nothing = raw::read(&[]).book;
     assert_eq!((nothing.seats, nothing.windows, nothing.has_sheet), (0, 0, 0));
     assert_eq!((nothing.has_first, nothing.first), (0, 0));
+    assert_eq!((nothing.has_balances, nothing.balances), (0, row(&[])));
     assert_eq!((nothing.caps, nothing.sheet), (grid(&[]), grid(&[])));
 }
 
-/// The file that is chosen. The body must be the caller's own bytes: the last of that file but for those of its first seat.
+/// The file that is chosen. The body must be the caller's own bytes: the last of that file but for those of its first seat and of its
+/// balances.
 fn chosen(first: &[u8], second: &[u8]) -> Which {
     let Better { file, body } = better(first, second).unwrap();
     let bytes = if file == Which::First { first } else { second };
     let book = read(bytes).unwrap();
-    let end = bytes.len() - if book.first.is_some() { 2 } else { 0 };
+    let after = 2 * book.first.is_some() as usize + 2 * book.seats * book.balances.is_some() as usize;
+    let end = bytes.len() - after;
     let start = end - 2 * book.seats * book.windows;
     assert_eq!(body.as_ptr_range(), bytes[start..end].as_ptr_range());
     file
@@ -256,6 +322,11 @@ fn the_better_of_two_sheets() {
     let turned = planned(&file_of(&Book { first: Some(3), ..k8(None) }));
     assert_eq!((chosen(&spoilt, &turned), chosen(&turned, &spoilt)), (Which::Second, Which::First));
     assert_eq!((chosen(&fair, &turned), chosen(&turned, &fair)), (Which::First, Which::First));
+    // Nor are balances of zeros; others decide whose list is higher.
+    let zeros = file_of(&Book { balances: Some(row(&[])), ..read(&spoilt).unwrap() });
+    assert_eq!((chosen(&zeros, &fair), chosen(&fair, &zeros)), (Which::Second, Which::First));
+    let [even, odd] = [[2, 2], [3, 1]].map(|[a, b]| file_of(&k5(Some(&[0, 4]), Some(&[&[a], &[b]]))));
+    assert_eq!((chosen(&even, &odd), chosen(&odd, &even)), (Which::Second, Which::First));
 }
 
 /// The refusal of a pair of files.
@@ -269,6 +340,7 @@ fn pairs_are_refused_first_file_first() {
     let file = file_of(&k8(K8_SHEET));
     let above_supply = file_of(&k8(Some(&[&[1, 0], &[1, 2], &[0, 3]])));
     let other_book = file_of(&Book { supplies: book(&[1, 4], &[], None).supplies, ..k8(K8_SHEET) });
+    let other_balances = file_of(&Book { balances: Some(row(&[0, 0, 1])), ..k8(K8_SHEET) });
     let (first, second) = (Some(Which::First), Some(Which::Second));
     assert_eq!(pair_refusal(&[], &[]), (first, Reason::UnderTwoBytes, 0));
     assert_eq!(pair_refusal(&above_supply, &[4]), (first, Reason::WindowAboveSupply, 32));
@@ -276,6 +348,7 @@ fn pairs_are_refused_first_file_first() {
     assert_eq!(pair_refusal(&K11, &above_supply), (first, Reason::NoSheet, 0));
     assert_eq!(pair_refusal(&other_book, &above_supply), (second, Reason::WindowAboveSupply, 32));
     assert_eq!(pair_refusal(&file, &other_book), (None, Reason::OtherBook, 0));
+    assert_eq!(pair_refusal(&other_balances, &file), (None, Reason::OtherBook, 0));
     let texts = [(&[][..], &file[..]), (&file, &[]), (&file, &other_book)];
     let texts = texts.map(|(first, second)| better(first, second).unwrap_err().to_string());
     assert_eq!(texts, ["first file: refused 1 at 0", "second file: refused 1 at 0", "both files: refused 17 at 0"]);

@@ -1,4 +1,4 @@
-//! The better of two sheets of one book (paper 02, E1), which E2 lets have different first seats.
+//! The better of two sheets of one book (paper 02, E1), which E2 lets have different first seats, and E5 no different balances.
 
 use std::cmp::Ordering;
 
@@ -20,7 +20,7 @@ pub struct PairRefusal {
     pub refusal: Refusal,
 }
 
-/// A seat's level as the fraction that it is: total and weight.
+/// A seat's level as the fraction that it is: balance plus total, and weight.
 type Level = (u32, u32);
 
 /// The sheet body of the file whose list is higher in dictionary order, and the first file's if the lists are equal.
@@ -44,27 +44,31 @@ pub fn choose(
     Ok(Better { file, start: Layout::of(book, true).sheet, length: 2 * book.seats * book.windows })
 }
 
-/// Whether classes, supplies and caps are the same. The first seat decides ties of settled totals and no list, so it may differ.
+/// Whether classes, supplies, caps and balances in force are the same. The first seat decides ties of settled totals and no list, so it may
+/// differ.
 fn same_numbers(book: &Book, other: &Book) -> bool {
     book.seats == other.seats
         && book.windows == other.windows
         && book.classes == other.classes
         && book.supplies == other.supplies
         && book.caps == other.caps
+        && book.carried() == other.carried()
 }
 
 /// All levels, lowest first.
 fn list(book: &Book, sheet: &Sheet) -> Vec<Level> {
-    let total = |seat: usize| sheet[seat][..book.windows].iter().map(|&cell| cell as u32).sum();
+    let balances = book.carried();
+    let total = |seat: usize| sheet[seat][..book.windows].iter().map(|&cell| cell as u32).sum::<u32>();
     let weight = |seat: usize| WEIGHTS[book.classes[seat] as usize - 1] as u32;
-    let mut levels: Vec<Level> = (0..book.seats).map(|seat| (total(seat), weight(seat))).collect();
+    let level = |seat: usize| (balances[seat] as u32 + total(seat), weight(seat));
+    let mut levels: Vec<Level> = (0..book.seats).map(level).collect();
     levels.sort_by(compare);
     levels
 }
 
 /// Fractions by cross products.
-fn compare(&(total, weight): &Level, &(other_total, other_weight): &Level) -> Ordering {
-    (total * other_weight).cmp(&(other_total * weight))
+fn compare(&(height, weight): &Level, &(other_height, other_weight): &Level) -> Ordering {
+    (height * other_weight).cmp(&(other_height * weight))
 }
 
 /// The first place where two lists differ decides; without one they are equal.

@@ -1,5 +1,6 @@
 //! The better of two sheets: examples in pairs, equal lists, which refusal comes first, and books that differ.
 
+use super::balance_tests::carrying;
 use super::first_tests::first_is;
 use super::*;
 
@@ -71,14 +72,16 @@ fn levels_are_compared_exactly_and_from_the_lowest() {
 }
 
 /// A file for each line that a single file can meet, with the line's number and the offset of the refusal.
-fn refused_files() -> [(u32, Vec<u8>, usize); 16] {
+fn refused_files() -> [(u32, Vec<u8>, usize); 17] {
     let with_sheet = |rows: &[&[u16]]| file_of(&k8(), Some(&grid(rows)));
     // The sheet is above the caps too, which comes later.
     let mut no_seat = file_of(&first_is(k8(), 1), Some(&[[9; WINDOWS]; SEATS]));
     no_seat[66] = 4;
+    let mut too_high = file_of(&carrying(k8(), &[0, 0, 0]), Some(&[[9; WINDOWS]; SEATS]));
+    too_high[70..].copy_from_slice(&50_001u16.to_le_bytes());
     [
         (1, vec![3], 1),
-        (2, k8_with(0, 6), 0),
+        (2, k8_with(0, 7), 0),
         (3, k8_with(0, 4)[..25].to_vec(), 25),
         (4, k8_with(8, 3), 8),
         (5, k8_with(4, 22), 4),
@@ -90,6 +93,7 @@ fn refused_files() -> [(u32, Vec<u8>, usize); 16] {
         (11, k8_with(28, 4096), 28),
         (12, k8_with(36, 4096), 36),
         (18, no_seat, 66),
+        (19, too_high, 70),
         (13, file_of(&k8(), None), 0),
         (14, with_sheet(&[&[0, 0], &[1, 0], &[1, 4]]), 56),
         (15, with_sheet(&[&[1, 0], &[1, 2], &[0, 3]]), 32),
@@ -151,5 +155,46 @@ fn another_first_seat_is_not_another_book() {
         assert_eq!(better(&fair, &spoilt), Ok(Better { file: 1, ..chosen }));
         assert_eq!(fair[start..start + 12], [0, 0, 0, 0, 1, 0, 1, 0, 0, 0, 2, 0]);
         assert_eq!(better(&file_of(one, Some(&high)), &fair).map(|chosen| chosen.file), Ok(1));
+    }
+}
+
+#[test]
+fn levels_are_of_balance_plus_total() {
+    let carrying_two = |balances: &[u16]| carrying(two_seats(), balances);
+    // By totals 2 and 2 are higher than 1 and 3.
+    assert_lower(&carrying_two(&[0, 0]), &[&[1], &[3]], &[&[2], &[2]]);
+    assert_lower(&carrying_two(&[4, 0]), &[&[2], &[2]], &[&[1], &[3]]);
+    assert_equal(&carrying_two(&[1, 0]), &[&[0], &[3]], &[&[2], &[1]]);
+    assert_lower(&carrying_two(&[MOST_BALANCE, MOST_BALANCE - 2]), &[&[0], &[1]], &[&[0], &[2]]);
+    // K5 with balances 0 and 4, where 3 and 1 are planned.
+    assert_lower(&carrying(k5(), &[0, 4]), &[&[2], &[2]], &[&[3], &[1]]);
+    assert_lower(&carrying(k5(), &[0, 4]), &[&[4], &[0]], &[&[3], &[1]]);
+}
+
+#[test]
+fn other_balances_make_another_book() {
+    let file = |balances: &[u16]| file_of(&carrying(k8(), balances), NO_CREDITS);
+    let none = file_of(&k8(), NO_CREDITS);
+    let all =
+        [none, file(&[1, 2, 3]), file(&[0, 2, 3]), file(&[1, 0, 3]), file(&[1, 2, 0]), file(&[0, 0, MOST_BALANCE])];
+    for (place, one) in all.iter().enumerate() {
+        for (other_place, other) in all.iter().enumerate() {
+            let expected = if place == other_place { Ok(1) } else { Err((17, 0, 0)) };
+            assert_eq!(chosen(one, other), expected, "{place} and {other_place}");
+        }
+    }
+    // Another first seat beside the same balances makes none.
+    assert_eq!(chosen(&all[1], &file_of(&first_is(carrying(k8(), &[1, 2, 3]), 2), NO_CREDITS)), Ok(1));
+}
+
+#[test]
+fn no_balances_and_zeros_are_of_one_book() {
+    let [low, high]: [Sheet; 2] = [[0, 3], [1, 2]].map(|[a, b]| grid(&[&[0, 0], &[1, a], &[0, b]]));
+    let zeros = carrying(k8(), &[0, 0, 0]);
+    for (one, other, start) in [(k8(), zeros.clone(), 54), (zeros, k8(), 48)] {
+        let (spoilt, fair) = (file_of(&one, Some(&low)), file_of(&other, Some(&high)));
+        assert_eq!(better(&spoilt, &fair), Ok(Better { file: 2, start, length: 12 }));
+        assert_eq!(better(&fair, &spoilt), Ok(Better { file: 1, start, length: 12 }));
+        assert_eq!(fair[start..start + 12], [0, 0, 0, 0, 1, 0, 1, 0, 0, 0, 2, 0]);
     }
 }

@@ -27,7 +27,18 @@ fn small_book(rng: &mut Rng) -> Book {
         book.supplies[window] = rng.between(0, most + 3) as u16;
     }
     book.first = rng.once_in(2).then(|| rng.between(1, book.seats) as u16);
+    book.balances = rng.once_in(2).then(|| small_balances(rng, book.seats));
     book
+}
+
+/// Balances about as high as totals are, and at times one seat's far above.
+fn small_balances(rng: &mut Rng, seats: usize) -> [u16; SEATS] {
+    let (mut balances, most) = ([0; SEATS], rng.between(0, 6));
+    balances[..seats].fill_with(|| rng.between(0, most) as u16);
+    if rng.once_in(8) {
+        balances[rng.below(seats)] = MOST_BALANCE - rng.below(3) as u16;
+    }
+    balances
 }
 
 /// Every way to hand out credits of one window: no cell above its cap, the sum not above the supply.
@@ -68,14 +79,20 @@ fn totals(book: &Book, sheet: &Sheet) -> Vec<i64> {
     sheet[..book.seats].iter().map(|row| row.iter().map(|&cell| cell as i64).sum()).collect()
 }
 
+/// Balance plus total of each seat.
+fn heights(book: &Book, sheet: &Sheet) -> Vec<i64> {
+    let balance = |seat: usize| book.balances.map_or(0, |balances| balances[seat] as i64);
+    totals(book, sheet).into_iter().enumerate().map(|(seat, total)| balance(seat) + total).collect()
+}
+
 fn weight(book: &Book, seat: usize) -> i64 {
     WEIGHTS[book.classes[seat] as usize - 1] as i64
 }
 
 /// The levels, lowest first, all times 120: a multiple of every weight, so that whole numbers hold them.
 fn profile(book: &Book, sheet: &Sheet) -> Vec<i64> {
-    let totals = totals(book, sheet);
-    let mut levels: Vec<i64> = (0..book.seats).map(|seat| totals[seat] * 120 / weight(book, seat)).collect();
+    let heights = heights(book, sheet);
+    let mut levels: Vec<i64> = (0..book.seats).map(|seat| heights[seat] * 120 / weight(book, seat)).collect();
     levels.sort();
     levels
 }
@@ -98,15 +115,15 @@ fn paths_from(book: &Book, sheet: &Sheet, gainer: usize, moves: &mut Vec<Move>, 
     }
 }
 
-/// Paper 01's "improves" and "ties wrongly", in its own words.
-fn improves(book: &Book, totals: &[i64], gainer: usize, loser: usize) -> bool {
-    let left = totals[gainer] * weight(book, loser);
-    let right = (totals[loser] - 1) * weight(book, gainer);
+/// Paper 01's "improves" and "ties wrongly", in its own words but for balance plus total, which paper 02 has for the total.
+fn improves(book: &Book, heights: &[i64], gainer: usize, loser: usize) -> bool {
+    let left = heights[gainer] * weight(book, loser);
+    let right = (heights[loser] - 1) * weight(book, gainer);
     left < right || left == right && weight(book, gainer) < weight(book, loser)
 }
-fn ties_wrongly(book: &Book, totals: &[i64], gainer: usize, loser: usize) -> bool {
+fn ties_wrongly(book: &Book, heights: &[i64], gainer: usize, loser: usize) -> bool {
     weight(book, gainer) == weight(book, loser)
-        && totals[loser] == totals[gainer] + 1
+        && heights[loser] == heights[gainer] + 1
         && is_earlier(book, gainer, loser)
 }
 
@@ -140,9 +157,10 @@ fn mark_by_the_rules(book: &Book, sheet: &Sheet) -> (Marked, Option<(usize, usiz
             }
         }
     }
-    let totals = totals(book, sheet);
-    let better = chosen(book, sheet, |gainer, loser| improves(book, &totals, gainer, loser)).map(|ends| (2, ends));
-    let tied = || chosen(book, sheet, |gainer, loser| ties_wrongly(book, &totals, gainer, loser)).map(|ends| (3, ends));
+    let heights = heights(book, sheet);
+    let better = chosen(book, sheet, |gainer, loser| improves(book, &heights, gainer, loser)).map(|ends| (2, ends));
+    let tied =
+        || chosen(book, sheet, |gainer, loser| ties_wrongly(book, &heights, gainer, loser)).map(|ends| (3, ends));
     match better.or_else(tied) {
         Some((mark, ends)) => (Marked { mark, moves: ends.2 as u32, ..Marked::default() }, Some(ends)),
         None => (Marked { mark: 4, ..Marked::default() }, None),
@@ -186,14 +204,16 @@ fn check_sheet(book: &Book, sheet: &Sheet, best: &[i64], planned: &[i64]) -> u32
 #[test]
 fn every_sheet_of_small_books() {
     let mut rng = Rng::new(1);
-    let (mut books, mut marks, mut turned, mut raised) = (0, [0u32; 5], 0, 0);
+    let (mut books, mut marks, mut turned, mut moved, mut raised) = (0, [0u32; 5], 0, 0, 0);
     while books < 6000 {
         let book = small_book(&mut rng);
         let Some(sheets) = feasible_sheets(&book) else { continue };
         let best = sheets.iter().map(|sheet| profile(&book, sheet)).max().unwrap();
         let planned = plan_sheet(&book);
         let totals_planned = totals(&book, &planned);
-        turned += (totals_planned != totals(&book, &plan_sheet(&Book { first: None, ..book.clone() }))) as u32;
+        let changed = |other: Book| (totals_planned != totals(&book, &plan_sheet(&other))) as u32;
+        turned += changed(Book { first: None, ..book.clone() });
+        moved += changed(Book { balances: None, ..book.clone() });
         raised += (planned != settled_sheet(&book)) as u32;
         let mut settled = Vec::new();
         for sheet in &sheets {
@@ -206,8 +226,9 @@ fn every_sheet_of_small_books() {
         books += 1;
     }
     println!("{books} books; sheets with mark 1 to 4: {:?}", &marks[1..]);
-    println!("on {turned} of them the first seat changes the totals, on {raised} a settled sheet was not standard");
-    assert!(marks[1..].iter().all(|&count| count > 1000) && turned > 100 && raised > 300);
+    println!("on {turned} of them the first seat changes the totals, on {moved} the balances do;");
+    println!("on {raised} a settled sheet was not standard");
+    assert!(marks[1..].iter().all(|&count| count > 1000) && turned > 100 && moved > 500 && raised > 300);
 }
 
 /// The highest sheet in reading order that has the totals and the window sums left, from some cell on: every number is tried, the highest
@@ -263,10 +284,11 @@ fn the_better_of_pairs_of_sheets() {
         let Some(sheets) = feasible_sheets(&book) else { continue };
         let pair = [0; 2].map(|_| sheets[rng.below(sheets.len())]);
         let [list, other] = pair.map(|sheet| profile(&book, &sheet));
-        // The list does not ask who comes first, so the files may differ in that.
+        // The list does not ask who comes first, so the files may differ in that; nor whether zeros are there.
         let [first, second] = pair.map(|sheet| {
             let first = rng.once_in(2).then(|| rng.between(1, book.seats) as u16);
-            file_of(&Book { first, ..book.clone() }, Some(&sheet))
+            let balances = if rng.once_in(2) { Some(book.carried()) } else { book.balances };
+            file_of(&Book { first, balances, ..book.clone() }, Some(&sheet))
         });
         let chosen = better(&first, &second).map(|chosen| chosen.file);
         assert_eq!(chosen, Ok(if list < other { 2 } else { 1 }));

@@ -1,9 +1,9 @@
 //! The day file: reader and writer.
 
-use super::{refuse_if, Book, Grid, Refusal, Sheet, MOST_CREDITS, SEATS, WEIGHTS, WINDOWS};
+use super::{refuse_if, Book, Grid, Refusal, Sheet, MOST_BALANCE, MOST_CREDITS, SEATS, WEIGHTS, WINDOWS};
 
 /// The last kind that is known. Kinds 1 to 3 are in every file.
-const LAST_KIND: usize = 5;
+const LAST_KIND: usize = 6;
 
 /// Where the parts of a day file begin, and its length. A part that is missing has no bytes.
 #[derive(Clone, Copy, Debug)]
@@ -14,24 +14,28 @@ pub struct Layout {
     pub caps: usize,
     pub sheet: usize,
     pub first: usize,
+    pub balances: usize,
     pub length: usize,
 }
 
 impl Layout {
     /// The layout of the book's file, with or without a sheet.
     pub fn of(book: &Book, with_sheet: bool) -> Layout {
-        Layout::new(book.seats, book.windows, with_sheet, book.first.is_some())
+        Layout::new(book.seats, book.windows, [with_sheet, book.first.is_some(), book.balances.is_some()])
     }
 
-    fn new(seats: usize, windows: usize, with_sheet: bool, with_first: bool) -> Layout {
-        let entries = 3 + with_sheet as usize + with_first as usize;
+    /// The last argument says which of sheet, first seat and balances are there.
+    fn new(seats: usize, windows: usize, there: [bool; 3]) -> Layout {
+        let [with_sheet, with_first, with_balances] = there.map(usize::from);
+        let entries = 3 + with_sheet + with_first + with_balances;
         let classes = 2 + 6 * entries;
         let supplies = classes + 2 * seats;
         let caps = supplies + 2 * windows;
         let sheet = caps + 2 * seats * windows;
-        let first = if with_sheet { sheet + 2 * seats * windows } else { sheet };
-        let length = if with_first { first + 2 } else { first };
-        Layout { entries, classes, supplies, caps, sheet, first, length }
+        let first = sheet + with_sheet * 2 * seats * windows;
+        let balances = first + with_first * 2;
+        let length = balances + with_balances * 2 * seats;
+        Layout { entries, classes, supplies, caps, sheet, first, balances, length }
     }
 }
 
@@ -39,6 +43,7 @@ impl Layout {
 struct Contents {
     sheet: Option<usize>,
     first: Option<usize>,
+    balances: Option<usize>,
 }
 
 /// The fields of entry `i` of the contents lie here, two bytes each.
@@ -61,7 +66,8 @@ fn field(file: &[u8], at: usize) -> usize {
 pub fn read(file: &[u8]) -> Result<(Book, Option<Sheet>), Refusal> {
     let contents = check_contents(file)?;
     let (seats, windows) = check_lengths(file, &contents)?;
-    let layout = Layout::new(seats, windows, contents.sheet.is_some(), contents.first.is_some());
+    let there = [contents.sheet, contents.first, contents.balances].map(|entry| entry.is_some());
+    let layout = Layout::new(seats, windows, there);
     let mut book = Book::empty(seats, windows);
     read_row(&file[layout.classes..], &mut book.classes[..seats]);
     read_row(&file[layout.supplies..], &mut book.supplies[..windows]);
@@ -71,6 +77,11 @@ pub fn read(file: &[u8]) -> Result<(Book, Option<Sheet>), Refusal> {
         refuse_if(field(file, length_at(entry)) != 2, 18, length_at(entry))?;
         book.first = Some(field(file, layout.first) as u16);
         check_first(&book, &layout)?;
+    }
+    if let Some(entry) = contents.balances {
+        refuse_if(field(file, length_at(entry)) != 2 * seats, 19, length_at(entry))?;
+        read_row(&file[layout.balances..], &mut book.balances.insert([0; SEATS])[..seats]);
+        check_balances(&book, &layout)?;
     }
     if contents.sheet.is_none() {
         return Ok((book, None));
@@ -100,7 +111,7 @@ fn check_contents(file: &[u8]) -> Result<Contents, Refusal> {
     }
     refuse_if(end != file.len(), 6, file.len())?;
     let entry_of = |kind| (3..entries).find(|&i| field(file, kind_at(i)) == kind);
-    Ok(Contents { sheet: entry_of(4), first: entry_of(5) })
+    Ok(Contents { sheet: entry_of(4), first: entry_of(5), balances: entry_of(6) })
 }
 
 /// Refusals 7 to 9: the lengths of the bodies that depend on each other. Gives the numbers of seats and windows.
@@ -139,6 +150,14 @@ fn check_first(book: &Book, layout: &Layout) -> Result<(), Refusal> {
     refuse_if(!in_book, 18, layout.first)
 }
 
+/// Refusal 19 by its values: a balance that is too high.
+fn check_balances(book: &Book, layout: &Layout) -> Result<(), Refusal> {
+    for (seat, &balance) in book.carried()[..book.seats].iter().enumerate() {
+        refuse_if(balance > MOST_BALANCE, 19, layout.balances + 2 * seat)?;
+    }
+    Ok(())
+}
+
 /// Fills a row with the fields at the front of the bytes.
 fn read_row(bytes: &[u8], row: &mut [u16]) {
     for (value, pair) in row.iter_mut().zip(bytes.chunks_exact(2)) {
@@ -160,6 +179,7 @@ pub fn write(book: &Book, sheet: Option<&Sheet>, out: &mut [u8]) -> Result<usize
     let layout = Layout::of(book, sheet.is_some());
     check_values(book, &layout)?;
     check_first(book, &layout)?;
+    check_balances(book, &layout)?;
     refuse_if(out.len() < layout.length, 16, layout.length)?;
     write_contents(book, &layout, sheet.is_some(), out);
     write_row(&book.classes[..book.seats], &mut out[layout.classes..]);
@@ -170,6 +190,9 @@ pub fn write(book: &Book, sheet: Option<&Sheet>, out: &mut [u8]) -> Result<usize
     }
     if let Some(first) = book.first {
         write_row(&[first], &mut out[layout.first..]);
+    }
+    if let Some(balances) = &book.balances {
+        write_row(&balances[..book.seats], &mut out[layout.balances..]);
     }
     Ok(layout.length)
 }
@@ -183,6 +206,7 @@ fn write_contents(book: &Book, layout: &Layout, with_sheet: bool, out: &mut [u8]
         (true, layout.caps, cells),
         (with_sheet, layout.sheet, cells),
         (book.first.is_some(), layout.first, 2),
+        (book.balances.is_some(), layout.balances, 2 * book.seats),
     ];
     write_row(&[layout.entries as u16], out);
     let there = (1..).zip(parts).filter(|(_, (is_there, ..))| *is_there);

@@ -22,7 +22,8 @@ impl Move {
 pub struct Position<'a> {
     pub book: &'a Book,
     pub sheet: Sheet,
-    pub totals: [i32; SEATS],
+    /// Per seat its balance plus its total.
+    pub heights: [i32; SEATS],
     pub weights: [i32; SEATS],
     /// Per seat its place in today's order.
     pub places: [usize; SEATS],
@@ -55,7 +56,7 @@ impl<'a> Position<'a> {
         let mut position = Position {
             book,
             sheet,
-            totals: [0; SEATS],
+            heights: book.carried().map(i32::from),
             weights: [1; SEATS],
             places: [0; SEATS],
             below_cap: [0; SEATS],
@@ -65,7 +66,7 @@ impl<'a> Position<'a> {
             position.weights[seat] = WEIGHTS[book.classes[seat] as usize - 1] as i32;
             position.places[seat] = book.place(seat);
             for window in 0..book.windows {
-                position.totals[seat] += sheet[seat][window] as i32;
+                position.heights[seat] += sheet[seat][window] as i32;
                 position.update_masks(seat, window);
             }
         }
@@ -93,8 +94,8 @@ impl<'a> Position<'a> {
         let (window, giver, taker) = m.places();
         self.sheet[giver][window] -= credits;
         self.sheet[taker][window] += credits;
-        self.totals[giver] -= credits as i32;
-        self.totals[taker] += credits as i32;
+        self.heights[giver] -= credits as i32;
+        self.heights[taker] += credits as i32;
         self.update_masks(giver, window);
         self.update_masks(taker, window);
     }
@@ -133,14 +134,14 @@ impl<'a> Position<'a> {
     /// Is the donor one credit above a receiver of the same weight that comes earlier in today's order?
     pub fn ties_wrongly(&self, receiver: usize, donor: usize) -> bool {
         self.weights[receiver] == self.weights[donor]
-            && self.totals[donor] == self.totals[receiver] + 1
+            && self.heights[donor] == self.heights[receiver] + 1
             && self.places[receiver] < self.places[donor]
     }
 
     /// The receiver's level and the donor's less one credit, both times both weights.
     fn levels_between(&self, receiver: usize, donor: usize) -> (i32, i32) {
-        let low = self.totals[receiver] * self.weights[donor];
-        let high = (self.totals[donor] - 1) * self.weights[receiver];
+        let low = self.heights[receiver] * self.weights[donor];
+        let high = (self.heights[donor] - 1) * self.weights[receiver];
         (low, high)
     }
 }

@@ -7,11 +7,11 @@ pub(super) fn first_is(book: Book, seat: u16) -> Book {
     Book { first: Some(seat), ..book }
 }
 
-fn tied(moves: u32) -> Marked {
+pub(super) fn tied(moves: u32) -> Marked {
     Marked { mark: 3, moves, ..Marked::default() }
 }
 
-const SETTLED: Marked = Marked { mark: 4, window: 0, seat: 0, moves: 0 };
+pub(super) const SETTLED: Marked = Marked { mark: 4, window: 0, seat: 0, moves: 0 };
 
 /// Three seats of class 1 share a window of four credits: one of them gets two.
 fn four_for_three() -> Book {
@@ -95,17 +95,6 @@ fn seat_1_by_name_is_another_file_of_the_same_meaning() {
 }
 
 #[test]
-fn the_longest_file() {
-    let mut large = Book { classes: [8; SEATS], ..Book::empty(32, 24) };
-    large.caps = [[MOST_CREDITS; WINDOWS]; SEATS];
-    large.first = Some(32);
-    let sheet = [[u16::MAX; WINDOWS]; SEATS];
-    let file = file_of(&large, Some(&sheet));
-    assert_eq!(file.len(), FILE_LENGTH);
-    assert_eq!(read(&file), Ok((large, Some(sheet))));
-}
-
-#[test]
 fn first_seats_turned_away_and_taken() {
     for (sheet, at) in [(None, 48), (Some(&[[0; WINDOWS]; SEATS]), 66)] {
         for (seat, expected) in
@@ -122,7 +111,7 @@ fn first_seats_turned_away_and_taken() {
 }
 
 /// K8's file with these kinds after kind 3, each with its body.
-fn k8_and(optional: &[(u16, &[u8])]) -> Vec<u8> {
+pub(super) fn k8_and(optional: &[(u16, &[u8])]) -> Vec<u8> {
     let entries = 3 + optional.len() as u16;
     let (classes, mut end) = (2 + 6 * entries, 2 + 6 * entries + 22);
     let mut fields = vec![entries, 1, classes, 6, 2, classes + 6, 4, 3, classes + 10, 12];
@@ -137,20 +126,28 @@ fn k8_and(optional: &[(u16, &[u8])]) -> Vec<u8> {
 
 #[test]
 fn kinds_after_the_third_rise_and_are_known() {
-    let (cells, seat) = (&[0; 12][..], &[2, 0][..]);
+    let (cells, seat, balances) = (&[0; 12][..], &[2, 0][..], &[0; 6][..]);
     assert_eq!(k8_and(&[]), file_of(&k8(), None));
     for (optional, expected) in [
         (&[(4, cells)][..], None),
         (&[(5, seat)], None),
+        (&[(6, balances)], None),
         (&[(4, cells), (5, seat)], None),
+        (&[(4, cells), (6, balances)], None),
+        (&[(5, seat), (6, balances)], None),
+        (&[(4, cells), (5, seat), (6, balances)], None),
         (&[(5, seat), (4, cells)], refusal(4, 26)),
+        (&[(6, balances), (5, seat)], refusal(4, 26)),
+        (&[(4, cells), (6, balances), (5, seat)], refusal(4, 32)),
         (&[(5, seat), (5, seat)], refusal(4, 26)),
         (&[(4, cells), (4, cells)], refusal(4, 26)),
-        (&[(4, cells), (6, seat)], refusal(4, 26)),
-        (&[(6, seat), (5, seat)], refusal(4, 20)),
+        (&[(6, balances), (6, balances)], refusal(4, 26)),
+        (&[(4, cells), (7, seat)], refusal(4, 26)),
+        (&[(7, seat), (5, seat)], refusal(4, 20)),
+        (&[(4, cells), (5, seat), (7, balances)], refusal(4, 32)),
         (&[(3, cells), (5, seat)], refusal(4, 20)),
         (&[(0, seat)], refusal(4, 20)),
-        (&[(4, cells), (5, seat), (6, seat)], refusal(2, 0)),
+        (&[(4, cells), (5, seat), (6, balances), (7, seat)], refusal(2, 0)),
     ] {
         assert_eq!(read(&k8_and(optional)).err(), expected, "{optional:?}");
     }

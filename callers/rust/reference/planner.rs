@@ -50,11 +50,11 @@ fn fill(book: &Book) -> Sheet {
     sheet
 }
 
-/// Who comes first, each with a total: the lower level, then the smaller weight, then the seat that is earlier today.
-fn order(position: &Position, (a, total_a): (usize, i32), (b, total_b): (usize, i32)) -> Ordering {
+/// Who comes first, each with balance plus total: the lower level, then the smaller weight, then the seat that is earlier today.
+fn order(position: &Position, (a, height_a): (usize, i32), (b, height_b): (usize, i32)) -> Ordering {
     let (weight_a, weight_b) = (position.weights[a], position.weights[b]);
     let (place_a, place_b) = (position.places[a], position.places[b]);
-    (total_a * weight_b, weight_a, place_a).cmp(&(total_b * weight_a, weight_b, place_b))
+    (height_a * weight_b, weight_a, place_a).cmp(&(height_b * weight_a, weight_b, place_b))
 }
 
 /// Again and again the first seat takes from the last one that it reaches, and a seat that may take nothing drops out.
@@ -75,17 +75,17 @@ fn settle_round(position: &mut Position) -> bool {
 
 /// The seat of the set that comes first.
 fn first(position: &Position, seats: u32) -> Option<usize> {
-    let totals = &position.totals;
-    bits(seats).min_by(|&a, &b| order(position, (a, totals[a]), (b, totals[b])))
+    let heights = &position.heights;
+    bits(seats).min_by(|&a, &b| order(position, (a, heights[a]), (b, heights[b])))
 }
 
 /// Of the seats that the receiver reaches, the last one with a credit less, if the receiver still comes before it then.
 /// That is paper 01's "improves" or "ties wrongly".
 fn best_donor(position: &Position, receiver: usize) -> Option<(Reach, usize)> {
-    let totals = &position.totals;
+    let heights = &position.heights;
     let reach = position.reach(receiver);
-    let donor = bits(reach.seats).max_by(|&a, &b| order(position, (a, totals[a] - 1), (b, totals[b] - 1)))?;
-    let comes_before = order(position, (receiver, totals[receiver]), (donor, totals[donor] - 1)).is_lt();
+    let donor = bits(reach.seats).max_by(|&a, &b| order(position, (a, heights[a] - 1), (b, heights[b] - 1)))?;
+    let comes_before = order(position, (receiver, heights[receiver]), (donor, heights[donor] - 1)).is_lt();
     comes_before.then_some((reach, donor))
 }
 
@@ -98,11 +98,11 @@ fn push(position: &mut Position, reach: &Reach, donor: usize) {
     }
 }
 
-/// The most credits that the receiver may take: before the last of them, (receiver's total) × (donor's weight) is below
-/// (donor's total − 1) × (receiver's weight), or equal if the receiver has the smaller weight or else is earlier today.
+/// The most credits that the receiver may take: before the last of them, (receiver's height) × (donor's weight) is below
+/// (donor's height − 1) × (receiver's weight), or equal if the receiver has the smaller weight or else is earlier today.
 fn most_credits(position: &Position, receiver: usize, donor: usize) -> i32 {
     let (weight, donor_weight) = (position.weights[receiver], position.weights[donor]);
-    let gap = position.totals[donor] * weight - (position.totals[receiver] - 1) * donor_weight;
+    let gap = position.heights[donor] * weight - (position.heights[receiver] - 1) * donor_weight;
     let may_be_equal = (weight, position.places[receiver]) < (donor_weight, position.places[donor]);
     (if may_be_equal { gap } else { gap - 1 }) / (weight + donor_weight)
 }

@@ -1,6 +1,7 @@
-//! The standard sheet by hand: ways over several seats, the last window, first seats, and seats that keep what they have.
+//! The standard sheet by hand: ways over several seats, the last window, first seats, balances, and seats that keep what they have.
 
 use super::super::standard::standard;
+use super::balance_tests::carrying;
 use super::first_tests::first_is;
 use super::*;
 
@@ -79,5 +80,7 @@ fn reading_starts_at_seat_1_whoever_comes_first() {
     let two = book(&[1, 1], &[2, 1], &[&[2, 1], &[2, 1]]);
     assert_standard(&two, &[&[2, 0], &[0, 1]], &[&[&[1, 1], &[1, 0]]]);
     // Seat 2 has the odd credit now; read from there the sheet would be the other.
-    assert_standard(&first_is(two, 2), &[&[1, 0], &[1, 1]], &[&[&[0, 1], &[2, 0]]]);
+    assert_standard(&first_is(two.clone(), 2), &[&[1, 0], &[1, 1]], &[&[&[0, 1], &[2, 0]]]);
+    // So it has by its balance, which is no part of what is read.
+    assert_standard(&carrying(two, &[1, 0]), &[&[1, 0], &[1, 1]], &[&[&[0, 1], &[2, 0]]]);
 }

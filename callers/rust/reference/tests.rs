@@ -2,6 +2,8 @@
 
 use super::*;
 
+#[path = "balance_tests.rs"]
+mod balance_tests;
 #[path = "better_tests.rs"]
 mod better_tests;
 #[path = "first_tests.rs"]
@@ -205,7 +207,7 @@ fn contents_turned_away() {
         (vec![], 1, 0),
         (vec![3], 1, 1),
         (k8_with(0, 2), 2, 0),
-        (k8_with(0, 6), 2, 0),
+        (k8_with(0, 7), 2, 0),
         (k8_with(0, 4)[..25].to_vec(), 3, 25),
         (k8_with(0, 4), 4, 20),
         (k8_with(8, 3), 4, 8),
