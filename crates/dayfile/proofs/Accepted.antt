@@ -10,10 +10,11 @@ use native.Mathlib.Omega.{arith}
 use lib.ListN.{length, getD}
 use Rattle.model.specs.Lowest.{andThen}
 use Rattle.model.specs.Book.{Book, Grid, Shaped, cell, seats, windows}
-use Rattle.dayfile.specs.Bounds.{Fit, FirstFit, SheetFit, TwoByte}
-use Rattle.dayfile.specs.Layout.{Bytes, field, start, size, seatsIn, windowsIn, sizeAt, entryOf, gridIn, firstIn, bookOf, sheetOf}
+use Rattle.dayfile.specs.Bounds.{Fit, FirstFit, BalancesFit, SheetFit, TwoByte}
+use Rattle.dayfile.specs.Layout.{Bytes, field, start, size, seatsIn, windowsIn, sizeAt, entryOf, fieldsAt, gridIn}
+use Rattle.dayfile.specs.Layout.{firstIn, balancesIn, bookOf, sheetOf}
 use Rattle.dayfile.specs.File.{Part, part, oneIf, flat, optParts, partsOf, assemble, fileOf}
-use Rattle.dayfile.specs.Table.{within, firstOf, wrongFields, line7, line8, line10, line11, line12, line18}
+use Rattle.dayfile.specs.Table.{within, firstOf, wrongFields, line7, line8, line10, line11, line12, line18, line19}
 use Rattle.dayfile.specs.Table.{valueLines, optionLines, writeLines}
 use Rattle.dayfile.proofs.Tests.{low-as, high-as, within-low, within-high}
 use Rattle.dayfile.proofs.Lines.{none-holds}
@@ -21,7 +22,7 @@ use Rattle.dayfile.proofs.Fields.{field-small, fields-length, fields-at
 use Rattle.dayfile.proofs.Grids.{flat-length, flat-at}
 use Rattle.dayfile.proofs.Container.{nth, size-is, body-is}
 use Rattle.dayfile.proofs.Sound.{Sound, FieldsWithin, Even, even-size, none-outside}
-use Rattle.dayfile.proofs.WrittenReads.{none-fits, list-seat, written-seats, first-at}
+use Rattle.dayfile.proofs.WrittenReads.{none-fits, list-seat, list-balances, written-seats, first-at, balances-at}
 
 -- ---- a file that is read
 
@@ -86,6 +87,19 @@ module _ (f : List ℕ) where
   unfolding bookOf firstIn
   first-fits s = first-within (seats (bookOf f)) (seats-are f) (entryOf f 5) (s .first)
 
+  balances-within : (n : ℕ) → n ≡ seatsIn f → (r : Option ℕ)
+      → ((e : ℕ) → r ≡ some e → FieldsWithin f (start f e) (seatsIn f) 0 50000)
+      → BalancesFit n (andThen r (λ e. some (fieldsAt f (start f e) (seatsIn f))))
+  balances-within n q none h = tt
+  balances-within n q (some e) h = (
+    fields-length f (start f e) (seatsIn f) ∙ sym q,
+    λ i l. high-as 0 50000 (fields-at f (start f e) (seatsIn f) i (omega arith)) (h e refl i (omega arith)),
+  )
+
+  pub balances-fits : Sound f → BalancesFit (seats (bookOf f)) (bookOf f .balances)
+  unfolding bookOf balancesIn
+  balances-fits s = balances-within (seats (bookOf f)) (seats-are f) (entryOf f 6) (s .balances)
+
   sheet-small : Bytes f → (r : Option ℕ)
       → TwoByte (bookOf f) (andThen r (λ e. some (gridIn f e)))
   sheet-small by none = tt
@@ -119,6 +133,7 @@ fits f s =
       cap-high = λ i j h k. high-as 0 4095 (cap-field f i j (omega arith) (omega arith))
           (s .caps (i * windowsIn f + j) (cell-inside (seatsIn f) (windowsIn f) i j (omega arith) (omega arith)));
       first-seat = first-fits f s;
+      balances-fit = balances-fits f s;
     }
 
 -- ---- a book that is written
@@ -151,6 +166,7 @@ module _ (b : Book) (o : Option Grid) (shape : Shaped (seats b) (windows b) (b .
     supplies : FieldsWithin file (start file 1) (windowsIn file) 0 4095
     caps : FieldsWithin file (start file 2) (seatsIn file * windowsIn file) 0 4095
     first : line18 file ≡ none
+    balances : line19 file ≡ none
 
   passed : (room : ℕ) → firstOf (writeLines file room) ≡ none → Values
   unfolding writeLines valueLines optionLines line7 line8 line10 line11 line12
@@ -163,6 +179,7 @@ module _ (b : Book) (o : Option Grid) (shape : Shaped (seats b) (windows b) (b .
         supplies = none-outside file (start file 1) (windowsIn file) 0 4095 (n .1 .1 .1 .0);
         caps = none-outside file (start file 2) (seatsIn file * windowsIn file) 0 4095 (n .1 .1 .1 .1 .0);
         first = n .1 .1 .1 .1 .1 .0;
+        balances = n .1 .1 .1 .1 .1 .1 .0;
       }
 
   -- a first seat that line 18 lets pass
@@ -172,6 +189,14 @@ module _ (b : Book) (o : Option Grid) (shape : Shaped (seats b) (windows b) (b .
       list-seat (seats b) (b .first)
       (none-fits ps _ 1 1 (seats b) (entryOf file 5) (oneIf (b .first)) (first-at b o)
       (ap (λ (n : ℕ). andThen (entryOf file 5) (wrongFields file 1 1 n)) (sym (written-seats b o)) ∙ e))
+
+  -- balances that line 19 lets pass
+  carried-fit : line19 file ≡ none → BalancesFit (seats b) (b .balances)
+  unfolding line19 fileOf partsOf
+  carried-fit e =
+      list-balances (seats b) (b .balances)
+      (none-fits ps _ (seats b) 0 50000 (entryOf file 6) (b .balances) (balances-at b o)
+      (ap (λ (n : ℕ). andThen (entryOf file 6) (wrongFields file n 0 50000)) (sym (written-seats b o)) ∙ e))
 
   file-fits : (room : ℕ) → firstOf (writeLines file room) ≡ none → Fit b
   unfolding fileOf partsOf
@@ -200,6 +225,7 @@ module _ (b : Book) (o : Option Grid) (shape : Shaped (seats b) (windows b) (b .
             (sym (flat-at (seats b) (windows b) (b .caps) shape i j h k) ∙ number-at 2 (i * windows b + j) (omega arith) (omega arith))
             (v .caps (i * windows b + j) (omega arith));
         first-seat = seat-fits (v .first);
+        balances-fit = carried-fit (v .balances);
       }
 
   pub taken-fits : (room : ℕ) → firstOf (writeLines (fileOf b o) room) ≡ none → Fit b

@@ -1,4 +1,4 @@
--- K11 of paper 01 to the byte, and with paper 02's kind 5, computed from the definitions.
+-- K11 of paper 01 to the byte, and with paper 02's kinds 5 and 6, computed from the definitions.
 -- Assumes nothing.
 use mathlib.Core.List.{List, [], _∷_, _++_}
 use mathlib.Core.Option.{Option, none, some}
@@ -8,16 +8,16 @@ use lib.ListN.{take}
 use Rattle.fairness.specs.Leximin.{table}
 use Rattle.model.specs.Lowest.{lowest}
 use Rattle.model.specs.Book.{Book, Grid}
-use Rattle.dayfile.specs.Layout.{field, entryOf, ends, fieldsAt, gridAt, firstIn, bookOf, sheetOf}
+use Rattle.dayfile.specs.Layout.{field, entryOf, ends, fieldsAt, gridAt, firstIn, balancesIn, bookOf, sheetOf}
 use Rattle.dayfile.specs.File.{bytesOf, contents, bodies, fieldsOf, assemble, flat, optPart, optParts, partsOf, fileOf}
 use Rattle.dayfile.specs.Table.{refuse, kindRight, sizeRight, gridRight, outside}
 use Rattle.dayfile.specs.Table.{line1, line2, line3, line4, line5, line6, line7, line8, line9, line10, line11, line12}
-use Rattle.dayfile.specs.Table.{wrongFields, line18, contentsLines, lengthLines, valueLines, optionLines, readLines}
+use Rattle.dayfile.specs.Table.{wrongFields, line18, line19, contentsLines, lengthLines, valueLines, optionLines, readLines}
 use Rattle.dayfile.specs.Outcome.{turnedAway, answer, readFile}
 
 -- the K10 book: supply 3; cap 2
 abbrev book : Book
-book = record { classes = 1 ∷ []; supplies = 3 ∷ []; caps = (2 ∷ []) ∷ []; first = none }
+book = record { classes = 1 ∷ []; supplies = 3 ∷ []; caps = (2 ∷ []) ∷ []; first = none; balances = none }
 
 -- its planned sheet
 abbrev sheet : Option Grid
@@ -44,17 +44,21 @@ planned =
 
 -- the book with seat 1 named as the first, and with another number there
 abbrev firstIs : ℕ → Book
-firstIs k = record { classes = 1 ∷ []; supplies = 3 ∷ []; caps = (2 ∷ []) ∷ []; first = some k }
+firstIs k = record { classes = 1 ∷ []; supplies = 3 ∷ []; caps = (2 ∷ []) ∷ []; first = some k; balances = none }
 
--- its file: kind 5 behind kind 3, 34 bytes
-abbrev named : ℕ → List ℕ
-named k =
+-- a further kind of one field behind kind 3, whose bytes are given: 34 bytes
+abbrev further : (kind low high : ℕ) → List ℕ
+further kind low high =
     0x04 ∷ 0x00
     ∷ 0x01 ∷ 0x00 ∷ 0x1A ∷ 0x00 ∷ 0x02 ∷ 0x00
     ∷ 0x02 ∷ 0x00 ∷ 0x1C ∷ 0x00 ∷ 0x02 ∷ 0x00
     ∷ 0x03 ∷ 0x00 ∷ 0x1E ∷ 0x00 ∷ 0x02 ∷ 0x00
-    ∷ 0x05 ∷ 0x00 ∷ 0x20 ∷ 0x00 ∷ 0x02 ∷ 0x00
-    ∷ 0x01 ∷ 0x00 ∷ 0x03 ∷ 0x00 ∷ 0x02 ∷ 0x00 ∷ k ∷ 0x00 ∷ []
+    ∷ kind ∷ 0x00 ∷ 0x20 ∷ 0x00 ∷ 0x02 ∷ 0x00
+    ∷ 0x01 ∷ 0x00 ∷ 0x03 ∷ 0x00 ∷ 0x02 ∷ 0x00 ∷ low ∷ high ∷ []
+
+-- its file
+abbrev named : ℕ → List ℕ
+named k = further 5 k 0x00
 
 -- planned: kind 5 behind kind 4, 42 bytes
 abbrev named-planned : List ℕ
@@ -80,7 +84,8 @@ pub k11-read :
     × (readFile (k11 ++ (0x00 ∷ [])) ≡ turnedAway (refuse 6 27))
 unfolding readFile readLines contentsLines lengthLines valueLines optionLines
     line1 line2 line3 line4 line5 line6 line7 line8 line9 line10 line11 line12
-    line18 wrongFields lowest kindRight sizeRight gridRight outside field ends entryOf firstIn bookOf sheetOf fieldsAt gridAt table
+    line18 line19 wrongFields lowest kindRight sizeRight gridRight outside field ends entryOf firstIn balancesIn bookOf sheetOf fieldsAt gridAt
+    table
 k11-read = (refl, refl, refl, refl)
 
 pub named-written : (fileOf (firstIs 1) none ≡ named 1) × (fileOf (firstIs 1) sheet ≡ named-planned)
@@ -95,5 +100,38 @@ pub named-read :
     × (readFile (named 2) ≡ turnedAway (refuse 18 32))
 unfolding readFile readLines contentsLines lengthLines valueLines optionLines
     line1 line2 line3 line4 line5 line6 line7 line8 line9 line10 line11 line12
-    line18 wrongFields lowest kindRight sizeRight gridRight outside field ends entryOf firstIn bookOf sheetOf fieldsAt gridAt table
+    line18 line19 wrongFields lowest kindRight sizeRight gridRight outside field ends entryOf firstIn balancesIn bookOf sheetOf fieldsAt gridAt
+    table
 named-read = (refl, refl, refl, refl)
+
+-- the book with a balance of 50,000, and with that and seat 1 named
+abbrev carried : Option ℕ → Book
+carried k = record { classes = 1 ∷ []; supplies = 3 ∷ []; caps = (2 ∷ []) ∷ []; first = k; balances = some (50000 ∷ []) }
+
+-- planned: kinds 1 to 6, 50 bytes
+abbrev carried-planned : List ℕ
+carried-planned =
+    0x06 ∷ 0x00
+    ∷ 0x01 ∷ 0x00 ∷ 0x26 ∷ 0x00 ∷ 0x02 ∷ 0x00
+    ∷ 0x02 ∷ 0x00 ∷ 0x28 ∷ 0x00 ∷ 0x02 ∷ 0x00
+    ∷ 0x03 ∷ 0x00 ∷ 0x2A ∷ 0x00 ∷ 0x02 ∷ 0x00
+    ∷ 0x04 ∷ 0x00 ∷ 0x2C ∷ 0x00 ∷ 0x02 ∷ 0x00
+    ∷ 0x05 ∷ 0x00 ∷ 0x2E ∷ 0x00 ∷ 0x02 ∷ 0x00
+    ∷ 0x06 ∷ 0x00 ∷ 0x30 ∷ 0x00 ∷ 0x02 ∷ 0x00
+    ∷ 0x01 ∷ 0x00 ∷ 0x03 ∷ 0x00 ∷ 0x02 ∷ 0x00 ∷ 0x02 ∷ 0x00 ∷ 0x01 ∷ 0x00 ∷ 0x50 ∷ 0xC3 ∷ []
+
+pub carried-written : (fileOf (carried none) none ≡ further 6 0x50 0xC3) × (fileOf (carried (some 1)) sheet ≡ carried-planned)
+unfolding fileOf partsOf optParts optPart flat assemble fieldsOf contents bodies bytesOf
+carried-written = (refl, refl)
+
+-- a balance of 50,001 is refusal 19 at the value; kind 7 is unknown
+pub carried-read :
+    (readFile (further 6 0x50 0xC3) ≡ answer (carried none, none))
+    × (readFile carried-planned ≡ answer (carried (some 1), sheet))
+    × (readFile (further 6 0x51 0xC3) ≡ turnedAway (refuse 19 32))
+    × (readFile (further 7 0x50 0xC3) ≡ turnedAway (refuse 4 20))
+unfolding readFile readLines contentsLines lengthLines valueLines optionLines
+    line1 line2 line3 line4 line5 line6 line7 line8 line9 line10 line11 line12
+    line18 line19 wrongFields lowest kindRight sizeRight gridRight outside field ends entryOf firstIn balancesIn bookOf sheetOf fieldsAt gridAt
+    table
+carried-read = (refl, refl, refl, refl)

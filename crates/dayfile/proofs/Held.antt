@@ -9,7 +9,7 @@ use native.Mathlib.Omega.{arith}
 use lib.ListN.{length}
 use Rattle.model.specs.Lowest.{when, isSome, getOr}
 use Rattle.model.specs.Book.{Book, Grid, Shaped, seats, windows}
-use Rattle.dayfile.specs.Bounds.{Fit, SheetFit}
+use Rattle.dayfile.specs.Bounds.{Fit, BalancesFit, SheetFit}
 use Rattle.sheet.specs.Sheets.{gridOf}
 use Rattle.dayfile.specs.Memory.{sized, sizedGrid, Holds, held, bookIn, sheetIn, dayBook, daySheet}
 use Rattle.dayfile.specs.declared.Book as Memory
@@ -53,25 +53,37 @@ module _ (b : Book) (s : Option Grid) (d : Day) (fit : Fit b) (h : Holds b s d) 
       ap₂ (λ (x y : ℕ). sizedGrid x y (held g)) (h .seats-are) (h .windows-are)
       ∙ sized-grid-again (seats b) (windows b) 32 24 g (fit .seats-high) (fit .windows-high) p
 
-  abbrev made : List ℕ → List ℕ → Grid → Option ℕ → Book
-  made x y z k = record { classes = x; supplies = y; caps = z; first = k }
+  abbrev made : List ℕ → List ℕ → Grid → Option ℕ → Option (List ℕ) → Book
+  made x y z k xs = record { classes = x; supplies = y; caps = z; first = k; balances = xs }
 
   -- what may be missing, by its flag and its number
   held-first : (k : Option ℕ) (t : Bool) (x : ℕ) → t ≡ isSome k → x ≡ getOr k 0 → when t x ≡ k
   held-first none t x p q = ap (λ (y : Bool). when y x) p
   held-first (some k) t x p q = ap₂ when p q
 
+  held-balances : (k : Option (List ℕ)) (t : Bool) (xs : List ℕ) → BalancesFit (seats b) k → t ≡ isSome k → xs ≡ sized 32 (getOr k [])
+      → when t (sized (d .book .seats) xs) ≡ k
+  held-balances none t xs f p q = ap (λ (y : Bool). when y (sized (d .book .seats) xs)) p
+  held-balances (some ys) t xs f p q =
+      ap₂ when p (again (seats b) 32 (d .book .seats) ys xs (h .seats-are) q (fit .seats-high) (f .0))
+
+  -- those of a day
+  abbrev balancesThere : Option (List ℕ)
+  balancesThere = when (d .book .«has_balances») (sized (d .book .seats) (d .book .balances))
+
   pub held-book : dayBook d ≡ b
   unfolding bookIn
   held-book =
       ap₂ (λ (x y : List ℕ). made x y (sizedGrid (d .book .seats) (d .book .windows) (gridOf (d .caps)))
-      (when (d .book .«has_first») (d .book .first)))
+      (when (d .book .«has_first») (d .book .first)) balancesThere)
       (again (seats b) 32 (d .book .seats) (b .classes) (d .book .classes) (h .seats-are) (h .classes-are) (fit .seats-high) refl)
       (again (windows b) 24 (d .book .windows) (b .supplies) (d .book .supplies) (h .windows-are) (h .supplies-are)
       (fit .windows-high) refl)
-      ∙ ap₂ (made (b .classes) (b .supplies))
+      ∙ ap₂ (λ (z : Grid) (k : Option ℕ). made (b .classes) (b .supplies) z k balancesThere)
       (ap (sizedGrid (d .book .seats) (d .book .windows)) (h .caps-are) ∙ grid-again (b .caps) (fit .cap-shape))
       (held-first (b .first) (d .book .«has_first») (d .book .first) (h .has-first-is) (h .first-is))
+      ∙ ap (made (b .classes) (b .supplies) (b .caps) (b .first))
+      (held-balances (b .balances) (d .book .«has_balances») (d .book .balances) (fit .balances-fit) (h .has-balances-is) (h .balances-are))
 
   pub held-sheet : SheetFit b s → daySheet d ≡ s
   held-sheet p = go s p (h .has-sheet-is) (h .sheet-is)

@@ -9,7 +9,7 @@ use native.Mathlib.Omega.{arith}
 use lib.ListN.{length, getD, length-append}
 use Rattle.fairness.specs.Leximin.{table}
 use Rattle.model.specs.Book.{Book, Grid, Shaped, SheetOf, cell, seats, windows}
-use Rattle.dayfile.specs.Bounds.{Fit, FirstFit, SheetFit, TwoByte, longestFile}
+use Rattle.dayfile.specs.Bounds.{Fit, FirstFit, BalancesFit, SheetFit, TwoByte, longestFile}
 use Rattle.dayfile.specs.Layout.{Bytes, contentsEnd}
 use Rattle.dayfile.specs.File.{Part, part, contents, bodies, fieldsOf, flat, flatIf, optPart, optParts, partsOf, assemble, fileOf}
 use Rattle.dayfile.specs.File.{oneIf}
@@ -36,17 +36,20 @@ bodies-opt k (some xs) qs = length-append xs (bodies qs)
 
 pub file-length : (b : Book) (o : Option Grid)
     → length (fileOf b o)
-    ≡ contentsEnd (3 + entryIf (flatIf o) + entryIf (oneIf (b .first)))
-    + 2 * (seats b + windows b + length (flat (b .caps)) + lengthIf (flatIf o) + lengthIf (oneIf (b .first)))
+    ≡ contentsEnd (3 + entryIf (flatIf o) + entryIf (oneIf (b .first)) + entryIf (b .balances))
+    + 2 * (seats b + windows b + length (flat (b .caps)) + lengthIf (flatIf o) + lengthIf (oneIf (b .first)) + lengthIf (b .balances))
 unfolding fileOf partsOf optParts bodies
 file-length b o =
-    let tail : List Part = optPart 5 (oneIf (b .first)) ++ [] in
+    let last : List Part = optPart 6 (b .balances) ++ [] in
+    let tail : List Part = optPart 5 (oneIf (b .first)) ++ last in
     let ps : List Part = optPart 4 (flatIf o) ++ tail in
     let all : List Part = part 1 (b .classes) ∷ part 2 (b .supplies) ∷ part 3 (flat (b .caps)) ∷ ps in
     let n = count-opt 4 (flatIf o) tail in
     let s = bodies-opt 4 (flatIf o) tail in
-    let i = count-opt 5 (oneIf (b .first)) [] in
-    let j = bodies-opt 5 (oneIf (b .first)) [] in
+    let i = count-opt 5 (oneIf (b .first)) last in
+    let j = bodies-opt 5 (oneIf (b .first)) last in
+    let k = count-opt 6 (b .balances) [] in
+    let l = bodies-opt 6 (b .balances) [] in
     let a = length-append (b .classes) (b .supplies ++ (flat (b .caps) ++ bodies ps)) in
     let c = length-append (b .supplies) (flat (b .caps) ++ bodies ps) in
     let d = length-append (flat (b .caps)) (bodies ps) in
@@ -65,6 +68,11 @@ one-most : (k : Option ℕ) → (entryIf (oneIf k) ≤ 1) × (lengthIf (oneIf k)
 one-most none = (omega arith, omega arith)
 one-most (some x) = (omega arith, omega arith)
 
+-- balances are one entry of a field for each seat, or none of none
+each-most : (n : ℕ) (o : Option (List ℕ)) → BalancesFit n o → (entryIf o ≤ 1) × (lengthIf o ≤ n)
+each-most n none h = (omega arith, omega arith)
+each-most n (some xs) h = (omega arith, omega (arith, h .0))
+
 few-cells : (n m : ℕ) → n ≤ 32 → m ≤ 24 → n * m ≤ 768
 few-cells n m h k = let a = mul-le-mul-left n k in let b = mul-le-mul-right 24 h in omega arith
 
@@ -75,10 +83,11 @@ file-short b o fit sheet =
     let s = sheet-length b o sheet in
     let n = few-entries o in
     let k = one-most (b .first) in
+    let l = each-most (seats b) (b .balances) (fit .balances-fit) in
     let p = few-cells (seats b) (windows b) (fit .seats-high) (fit .windows-high) in
     let q = mul-le-mul-right (seats b * windows b) n in
     let sh = fit .seats-high in
-    let wh = fit .windows-high in omega (arith, k)
+    let wh = fit .windows-high in omega (arith, k, l)
 
 -- a sheet of whatever cells makes the file as long
 pub planned-length : (b : Book) (s : Grid) → Shaped (seats b) (windows b) (b .caps) → SheetOf b s
@@ -143,6 +152,11 @@ first-small : (n : ℕ) (k : Option ℕ) → n ≤ 32 → FirstFit n k → IfThe
 first-small n none l h = tt
 first-small n (some x) l h = (omega arith, small-cons x [] (omega (arith, h .1)) (λ i. omega arith))
 
+balances-small : (n : ℕ) (o : Option (List ℕ)) → BalancesFit n o → IfThere (λ xs. SmallPart (part 6 xs)) o
+balances-small n none h = tt
+balances-small n (some xs) h =
+    (omega arith, small-under 50000 xs (omega arith) (λ k l. h .1 k (omega (arith, h .0))))
+
 module _ (b : Book) (o : Option Grid) (fit : Fit b) (sheet : SheetFit b o) (two : TwoByte b o) where
   caps-small : Small (flat (b .caps))
   caps-small =
@@ -157,8 +171,10 @@ module _ (b : Book) (o : Option Grid) (fit : Fit b) (sheet : SheetFit b o) (two 
       (omega arith, small-under 4095 (b .supplies) (omega arith) (fit .supply-high)),
       (
         (omega arith, caps-small),
-        each-opt SmallPart 4 (flatIf o) (optPart 5 (oneIf (b .first)) ++ []) (sheet-small b o sheet two)
-            (each-opt SmallPart 5 (oneIf (b .first)) [] (first-small (seats b) (b .first) (fit .seats-high) (fit .first-seat)) tt),
+        each-opt SmallPart 4 (flatIf o) (optPart 5 (oneIf (b .first)) ++ (optPart 6 (b .balances) ++ [])) (sheet-small b o sheet two)
+            (each-opt SmallPart 5 (oneIf (b .first)) (optPart 6 (b .balances) ++ [])
+            (first-small (seats b) (b .first) (fit .seats-high) (fit .first-seat))
+            (each-opt SmallPart 6 (b .balances) [] (balances-small (seats b) (b .balances) (fit .balances-fit)) tt)),
       ),
     ),
   )
@@ -174,10 +190,17 @@ module _ (b : Book) (o : Option Grid) (fit : Fit b) (sheet : SheetFit b o) (two 
       (small-append (contents (contentsEnd (length ps)) ps) (bodies ps)
       (contents-small (contentsEnd (length ps)) ps (omega arith) parts-small) (bodies-small ps parts-small)))
 
--- ---- a file that is as long as any: 32 seats, 24 windows, a sheet and a first seat
+-- ---- a file that is as long as any: 32 seats, 24 windows, a sheet, a first seat and balances
 
 abbrev pub longBook : Book
-longBook = record { classes = table 32 (λ i. 1); supplies = table 24 (λ i. 0); caps = sizedGrid 32 24 []; first = some 1 }
+longBook =
+    record {
+      classes = table 32 (λ i. 1);
+      supplies = table 24 (λ i. 0);
+      caps = sizedGrid 32 24 [];
+      first = some 1;
+      balances = some (table 32 (λ i. 0));
+    }
 
 abbrev pub longSheet : Grid
 longSheet = sizedGrid 32 24 []
@@ -213,6 +236,10 @@ long-fits =
       cap-shape = long-shape;
       cap-high = λ i j h k. omega (arith, zero-cell i j (omega arith) (omega arith));
       first-seat = (omega arith, omega arith);
+      balances-fit = (
+        table-length 32 (λ i. 0) ∙ sym s,
+        λ i h. omega (arith, table-at {A = ℕ} 32 (λ i. 0) i 0 (omega arith)),
+      );
     }
 
 pub long-sheet-fits : SheetFit longBook (some longSheet)
@@ -227,4 +254,5 @@ long-length =
     let s = long-seats in
     let w = long-windows in
     let e = file-length longBook (some longSheet) in
+    let k = table-length {A = ℕ} 32 (λ i. 0) in
     let c = flat-length 32 24 (sizedGrid 32 24 []) (sized-shaped 32 24 []) in omega arith

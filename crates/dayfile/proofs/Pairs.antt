@@ -1,16 +1,22 @@
 -- Two files: where line 17 does not hold, what it compares is the same, and so is all that is said of sheets by it. Assumes nothing.
-use mathlib.Core.Path.{_≡_, refl, sym, ap, ap₂, subst, _∙_}
+use mathlib.Core.Path.{_≡_, refl, sym, ap, ap₂, _∙_}
 use mathlib.Core.Bool.{Bool, true, true≢false}
 use mathlib.Core.List.{List, [], _∷_}
 use mathlib.Core.Option.{none}
-use Prim.Native.Nat.{ℕ}
+use Prim.Native.Nat.{ℕ, _<_}
+use native.Mathlib.Omega.{arith}
 use lib.Dec.{eqb}
+use lib.ListN.{length, getD}
 use borrow.Author.Tests.{eqb-true, eq-eqb}
+use Rattle.fairness.specs.Classes.{weightOf}
 use Rattle.fairness.specs.Leximin.{Level}
-use Rattle.model.specs.Book.{Book, Grid, SheetOf, Lawful, seats, windows, withFirst}
+use Rattle.fairness.proofs.Alike.{Alike, alike-profile, alike-feasible}
+use Rattle.lists.proofs.Tables.{table-at}
+use Rattle.model.specs.Book.{Book, Grid, SheetOf, Lawful, cell, seats, windows, withFirst, firstSeat, placeFrom, balanceOf, balancesOf}
+use Rattle.model.specs.Book.{instanceOf}
 use Rattle.model.specs.Fair.{profileOf, HighestList}
 use Rattle.model.proofs.Tests.{and-true}
-use Rattle.model.proofs.Theorems.{first-profile, first-lawful, first-highest}
+use Rattle.model.proofs.Theorems.{first-profile, first-lawful}
 use Rattle.dayfile.specs.Layout.{bookOf}
 use Rattle.dayfile.specs.Table.{alike, sameBook, line17}
 use Rattle.dayfile.proofs.Sound.{kept}
@@ -42,60 +48,88 @@ pub record SameParts (b c : Book) : Type 0 where
   pub classes : b .classes ≡ c .classes
   pub supplies : b .supplies ≡ c .supplies
   pub caps : b .caps ≡ c .caps
+  pub balances : balancesOf b ≡ balancesOf c
 
 pub same-parts : (b c : Book) → sameBook b c ≡ true → SameParts b c
 unfolding sameBook
 same-parts b c e =
     let first = and-true (alike eqb (b .classes) (c .classes)) _ .0 e in
     let rest = and-true (alike eqb (b .supplies) (c .supplies)) _ .0 (first .1) in
+    let last = and-true (alike (alike eqb) (b .caps) (c .caps)) _ .0 (rest .1) in
     record {
       classes = alike-same eqb eqb-true _ _ (first .0);
       supplies = alike-same eqb eqb-true _ _ (rest .0);
-      caps = alike-same (alike eqb) (alike-same eqb eqb-true) _ _ (rest .1);
+      caps = alike-same (alike eqb) (alike-same eqb eqb-true) _ _ (last .0);
+      balances = alike-same eqb eqb-true _ _ (last .1);
     }
 
 pub parts-same : (b c : Book) → SameParts b c → sameBook b c ≡ true
 unfolding sameBook
 parts-same b c h =
     rw (
+      h .balances,
       h .classes,
       h .supplies,
       h .caps,
       alike-itself eqb eqb-itself (c .classes),
       alike-itself eqb eqb-itself (c .supplies),
       alike-itself (alike eqb) (alike-itself eqb eqb-itself) (c .caps),
+      alike-itself eqb eqb-itself (balancesOf c),
     ) refl
 
 -- ---- what is said of a sheet by these parts alone
 
-module _ (b c : Book) (h : SameParts b c) where
-  -- but for their first seats the books are one
-  whole : withFirst none b ≡ withFirst none c
-  whole =
-      ap₂ (λ (x y : List ℕ). record { classes = x; supplies = y; caps = b .caps; first = none }) (h .classes) (h .supplies)
-      ∙ ap (λ (z : Grid). record { classes = c .classes; supplies = c .supplies; caps = z; first = none }) (h .caps)
+pub parts-back : (b c : Book) → SameParts b c → SameParts c b
+parts-back b c h =
+    record { classes = sym (h .classes); supplies = sym (h .supplies); caps = sym (h .caps); balances = sym (h .balances) }
 
+module _ (b c : Book) (h : SameParts b c) where
   pub parts-seats : seats b ≡ seats c
-  parts-seats = ap seats whole
+  parts-seats = ap length (h .classes)
 
   pub parts-windows : windows b ≡ windows c
-  parts-windows = ap windows whole
+  parts-windows = ap length (h .supplies)
+
+  same-balance : (i : ℕ) → i < seats b → balanceOf b i ≡ balanceOf c i
+  unfolding balancesOf
+  same-balance i l =
+      sym (table-at (seats b) (balanceOf b) i 0 l) ∙ ap (λ (xs : List ℕ). getD xs i 0) (h .balances)
+      ∙ table-at (seats c) (balanceOf c) i 0 (omega (arith, parts-seats))
+
+  -- but for their first seats the books have the same used numbers
+  one-book-alike : (s : Grid) → Alike (instanceOf (withFirst (c .first) b)) (instanceOf c) (cell s) (cell s)
+  unfolding instanceOf
+  one-book-alike s =
+      record {
+        seats = parts-seats;
+        windows = parts-windows;
+        caps = λ i j li lj. ap (λ (g : Grid). cell g i j) (h .caps);
+        supplies = λ j lj. ap (λ (xs : List ℕ). getD xs j 0) (h .supplies);
+        weights = λ i li. ap (λ (xs : List ℕ). weightOf (getD xs i 0)) (h .classes);
+        bases = same-balance;
+        positions = λ i li. ap (λ (n : ℕ). placeFrom (firstSeat c) n i) parts-seats;
+        cells = λ i j li lj. refl;
+      }
 
   pub parts-profile : (s : Grid) → profileOf b s ≡ profileOf c s
-  parts-profile s = first-profile b none s ∙ ap (λ (x : Book). profileOf x s) whole ∙ sym (first-profile c none s)
+  parts-profile s = first-profile b (c .first) s ∙ alike-profile _ _ (cell s) (cell s) (one-book-alike s)
 
   pub parts-sheet : (s : Grid) → SheetOf b s → SheetOf c s
-  parts-sheet s = subst (λ (x : Book). SheetOf x s) whole
+  parts-sheet s p = record { rows = p .rows ∙ parts-seats; row = λ i l. p .row i (omega (arith, parts-seats)) ∙ parts-windows }
 
   pub parts-lawful : (s : Grid) → Lawful b s → Lawful c s
-  parts-lawful s l = first-lawful c none s .1 (subst (λ (x : Book). Lawful x s) whole (first-lawful b none s .0 l))
+  parts-lawful s l = alike-feasible _ _ (cell s) (cell s) (one-book-alike s) (first-lawful b (c .first) s .0 l)
 
-  pub parts-highest : (xs : List Level) → HighestList b xs → HighestList c xs
-  parts-highest xs g =
-      first-highest (withFirst none c) (c .first) xs (subst (λ (x : Book). HighestList x xs) whole (first-highest b none xs g))
-
-pub parts-back : (b c : Book) → SameParts b c → SameParts c b
-parts-back b c h = record { classes = sym (h .classes); supplies = sym (h .supplies); caps = sym (h .caps) }
+pub parts-highest : (b c : Book) → SameParts b c → (xs : List Level) → HighestList b xs → HighestList c xs
+parts-highest b c h xs g =
+    let back = parts-back b c h in
+    record {
+      sheet = g .sheet;
+      a-sheet = parts-sheet b c h (g .sheet) (g .a-sheet);
+      lawful = parts-lawful b c h (g .sheet) (g .lawful);
+      its-list = parts-profile c b back (g .sheet) ∙ g .its-list;
+      most = λ t shape law. rw (← parts-profile b c h t) (g .most t (parts-sheet c b back t shape) (parts-lawful c b back t law));
+    }
 
 -- ---- files
 

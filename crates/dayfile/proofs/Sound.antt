@@ -18,7 +18,7 @@ use Rattle.dayfile.specs.Layout.{field, count, contentsEnd, kind, start,
 use Rattle.dayfile.specs.Layout.{entryOf}
 use Rattle.dayfile.specs.Table.{firstOf, within, offset, known, kindRight, sizeRight, gridRight, outside}
 use Rattle.dayfile.specs.Table.{line1, line2, line3, line4, line5, line6, line7, line8, line9, line10, line11, line12}
-use Rattle.dayfile.specs.Table.{wrongFields, line18, contentsLines, lengthLines, valueLines, optionLines, readLines}
+use Rattle.dayfile.specs.Table.{wrongFields, line18, line19, contentsLines, lengthLines, valueLines, optionLines, readLines}
 use Rattle.dayfile.proofs.Tests.{within-low, within-high, when-none}
 use Rattle.dayfile.proofs.Search.{offset-none}
 use Rattle.dayfile.proofs.Lines.{none-holds, none-parts}
@@ -28,7 +28,7 @@ use Rattle.dayfile.proofs.Rising.{InOrder, kind-one, kind-two, kind-thr
 abbrev pub bodyFields : List ℕ → ℕ → ℕ
 bodyFields f k =
     let n : ℕ = seatsIn f in
-    let m : ℕ = windowsIn f in getD (0 ∷ n ∷ m ∷ n * m ∷ n * m ∷ 1 ∷ []) k 0
+    let m : ℕ = windowsIn f in getD (0 ∷ n ∷ m ∷ n * m ∷ n * m ∷ 1 ∷ n ∷ []) k 0
 
 -- each of n fields from an offset on is low to high
 abbrev pub FieldsWithin : List ℕ → ℕ → ℕ → ℕ → ℕ → Type 0
@@ -48,6 +48,7 @@ pub record Sound (f : List ℕ) : Type 0 where
   pub supplies : FieldsWithin f (start f 1) (windowsIn f) 0 4095
   pub caps : FieldsWithin f (start f 2) (seatsIn f * windowsIn f) 0 4095
   pub first : (e : ℕ) → entryOf f 5 ≡ some e → FieldsWithin f (start f e) 1 1 (seatsIn f)
+  pub balances : (e : ℕ) → entryOf f 6 ≡ some e → FieldsWithin f (start f e) (seatsIn f) 0 50000
 
 -- ---- line by line
 
@@ -154,6 +155,7 @@ module _ (f : List ℕ) (free : firstOf (readLines f) ≡ none) where
 
   pub sound : Sound f
   unfolding contentsLines lengthLines valueLines optionLines line1 line2 line3 line4 line5 line6 line7 line8 line9 line10 line11 line12 line18
+      line19
   sound =
       let n = none-holds (contentsLines f) (parts .0) in
       let l = none-holds (lengthLines f) (parts .1) in
@@ -172,6 +174,9 @@ module _ (f : List ℕ) (free : firstOf (readLines f) ≡ none) where
       let seat = listed-at f 5 1 1 (seatsIn f) (w .0) in
       let one : (e : ℕ) → e < count f → kind f e ≡ 5 → size f e ≡ 2 * 1 =
       λ e h q. seat e (entry-is f o e 5 (omega arith) h q) .long in
+      let carried = listed-at f 6 (seatsIn f) 0 50000 (w .1 .0) in
+      let each : (e : ℕ) → e < count f → kind f e ≡ 6 → size f e ≡ 2 * seatsIn f =
+      λ e h q. carried e (entry-is f o e 6 (omega arith) h q) .long in
       record {
         order = o;
         room = ltb-false (length f) (contentsEnd (count f)) (when-none _ (length f) (n .1 .1 .0));
@@ -182,9 +187,11 @@ module _ (f : List ℕ) (free : firstOf (readLines f) ≡ none) where
         windows-low = eight .least;
         windows-high = eight .most;
         sizes = sized-all f o (omega arith) (omega arith)
-            (sized-step f o 3 (nine 3 refl) (sized-step f o 4 (nine 4 refl) (sized-step f o 5 one (sized-last f o))));
+            (sized-step f o 3 (nine 3 refl) (sized-step f o 4 (nine 4 refl)
+            (sized-step f o 5 one (sized-step f o 6 each (sized-last f o)))));
         classes = none-outside f (start f 0) (seatsIn f) 1 8 (v .0);
         supplies = none-outside f (start f 1) (windowsIn f) 0 4095 (v .1 .0);
         caps = none-outside f (start f 2) (seatsIn f * windowsIn f) 0 4095 (v .1 .1 .0);
         first = λ e q. seat e q .fields;
+        balances = λ e q. carried e q .fields;
       }

@@ -1,6 +1,6 @@
 -- A book and a sheet that fit, written and read, are the same: no line of the table turns the file away.
 -- Assumes nothing.
-use mathlib.Core.Bool.{Bool, true, false, not, cond, _&&_}
+use mathlib.Core.Bool.{Bool, true, false, true≢false, not, cond, _&&_}
 use mathlib.Core.List.{List, [], _∷_, _++_}
 use mathlib.Core.Option.{Option, none, some}
 use mathlib.Core.Path.{_≡_, refl, sym, _∙_, ap, ap₂}
@@ -12,13 +12,13 @@ use borrow.Author.Tests.{eq-eqb, le-ltb}
 use Rattle.model.specs.Lowest.{lowest, when, orElse, andThen}
 use Rattle.model.specs.Book.{Book, Grid, Shaped, seats, windows}
 use Rattle.model.proofs.Lowest.{lowest-fails}
-use Rattle.dayfile.specs.Bounds.{Fit, FirstFit, SheetFit}
+use Rattle.dayfile.specs.Bounds.{Fit, FirstFit, BalancesFit, SheetFit}
 use Rattle.dayfile.specs.Layout.{field, count, contentsEnd, kind, start, size, ends, seatsIn, windowsIn, kindAt, startAt, sizeAt}
-use Rattle.dayfile.specs.Layout.{entryOf, fieldsAt, gridAt, gridIn, firstIn, bookOf, sheetOf}
+use Rattle.dayfile.specs.Layout.{entryOf, fieldsAt, gridAt, gridIn, firstIn, balancesIn, bookOf, sheetOf}
 use Rattle.dayfile.specs.File.{Part, part, partsOf, flatIf, oneIf, optPart, optParts, flat, assemble, fileOf}
 use Rattle.dayfile.specs.Table.{firstOf, within, offset, known, kindRight, sizeRight, gridRight, outside}
 use Rattle.dayfile.specs.Table.{line1, line2, line3, line4, line5, line6, line7, line8, line9, line10, line11, line12}
-use Rattle.dayfile.specs.Table.{wrongFields, line18, contentsLines, lengthLines, valueLines, optionLines, readLines}
+use Rattle.dayfile.specs.Table.{wrongFields, line18, line19, contentsLines, lengthLines, valueLines, optionLines, readLines}
 use Rattle.dayfile.proofs.Tests.{is-within, within-low, within-high, cond-no}
 use Rattle.dayfile.proofs.Fields.{fields-at}
 use Rattle.dayfile.proofs.Grids.{flat-length, flat-cell, grid-there}
@@ -94,6 +94,17 @@ pub list-seat : (n : ℕ) (k : Option ℕ) → IfThere (ListFit 1 1 n) (oneIf k)
 list-seat n none h = tt
 list-seat n (some x) h = let v = h .1 0 (omega arith) in (within-low 1 n x v, within-high 1 n x v)
 
+-- balances are one number for each seat
+balances-list : (n : ℕ) (o : Option (List ℕ)) → BalancesFit n o → IfThere (ListFit n 0 50000) o
+balances-list n none h = tt
+balances-list n (some xs) h =
+    let long = h .0 in (long, λ i l. is-within 0 50000 (getD xs i 0) zero-le (h .1 i (omega arith)))
+
+pub list-balances : (n : ℕ) (o : Option (List ℕ)) → IfThere (ListFit n 0 50000) o → BalancesFit n o
+list-balances n none h = tt
+list-balances n (some xs) h =
+    let long = h .0 in (long, λ i l. within-high 0 50000 (getD xs i 0) (h .1 i (omega arith)))
+
 -- kinds 3 and 4 have grids of n numbers
 abbrev GridPart : ℕ → Part → Type 0
 GridPart n p = within 3 4 (p .sort) ≡ true → length (p .body) ≡ n
@@ -103,10 +114,10 @@ sheet-grid : (b : Book) (o : Option Grid) → SheetFit b o
 sheet-grid b none s = tt
 sheet-grid b (some g) s = λ h. flat-length (seats b) (windows b) g s
 
--- and kind 5 has none
-seat-grid : (n : ℕ) (k : Option ℕ) → IfThere (λ xs. GridPart n (part 5 xs)) (oneIf k)
-seat-grid n none = tt
-seat-grid n (some x) = λ h. absurd (let z : _≡_ {A = ℕ} 0 1 = cc in omega arith)
+-- and the kinds after them have none
+no-grid : (n k : ℕ) → within 3 4 k ≡ false → (o : Option (List ℕ)) → IfThere (λ xs. GridPart n (part k xs)) o
+no-grid n k e none = tt
+no-grid n k e (some xs) = λ h. absurd (true≢false (sym h ∙ e))
 
 module _ (b : Book) (o : Option Grid) where
   abbrev ps : List Part
@@ -123,11 +134,17 @@ module _ (b : Book) (o : Option Grid) where
 
   -- ---- the parts that may be missing
 
+  abbrev last : List Part
+  last = optPart 6 (b .balances) ++ []
+
   abbrev tail : List Part
-  tail = optPart 5 (oneIf (b .first)) ++ []
+  tail = optPart 5 (oneIf (b .first)) ++ last
+
+  last-above : Above 6 last
+  last-above = above-opt 6 (b .balances) [] (omega arith) tt
 
   tail-above : Above 5 tail
-  tail-above = above-opt 5 (oneIf (b .first)) [] (omega arith) tt
+  tail-above = above-opt 5 (oneIf (b .first)) last (omega arith) last-above
 
   rising : Above 4 (optParts b o)
   unfolding optParts
@@ -135,7 +152,9 @@ module _ (b : Book) (o : Option Grid) where
 
   few : length ps ≤ known
   unfolding optParts
-  few = let e = few-opt 4 (flatIf o) tail in let g = few-opt 5 (oneIf (b .first)) [] in omega arith
+  few =
+      let e = few-opt 4 (flatIf o) tail in
+      let g = few-opt 5 (oneIf (b .first)) last in let h = few-opt 6 (b .balances) [] in omega arith
 
   -- ---- the file
 
@@ -191,12 +210,15 @@ module _ (b : Book) (o : Option Grid) where
 
   -- ---- where the parts that may be missing lie
 
-  -- how many fields stand before the sheet's body, and before the first seat's
+  -- how many fields stand before the sheet's body, before the first seat's and before the balances
   abbrev lists : ℕ
   lists = S + W + length (flat (b .caps))
 
   abbrev ahead : ℕ
   ahead = lists + lengthIf (flatIf o)
+
+  abbrev behind : ℕ
+  behind = ahead + lengthIf (oneIf (b .first))
 
   sheet-look : Looked (length ps) ps refl order-f 4 lists (flatIf o) tail
   unfolding optParts
@@ -208,9 +230,13 @@ module _ (b : Book) (o : Option Grid) where
         ahead = omega (arith, before-none (optParts b o));
       }) tail-above
 
-  first-look : Looked (length ps) ps refl order-f 5 ahead (oneIf (b .first)) []
+  first-look : Looked (length ps) ps refl order-f 5 ahead (oneIf (b .first)) last
   first-look =
-      look (length ps) ps refl order-f (sheet-look .next) 5 ahead (oneIf (b .first)) [] (sheet-look .split) (sheet-look .tail) tt
+      look (length ps) ps refl order-f (sheet-look .next) 5 ahead (oneIf (b .first)) last (sheet-look .split) (sheet-look .tail) last-above
+
+  balances-look : Looked (length ps) ps refl order-f 6 behind (b .balances) []
+  balances-look =
+      look (length ps) ps refl order-f (first-look .next) 6 behind (b .balances) [] (first-look .split) (first-look .tail) tt
 
   -- a body of one number
   one-f : (e x : ℕ) → e < length ps → nth ps e .body ≡ x ∷ [] → field f (start f e) ≡ x
@@ -222,7 +248,7 @@ module _ (b : Book) (o : Option Grid) where
       ∙ sym (fields-at f at n 0 (omega arith))
       ∙ ap (λ (xs : List ℕ). getD xs 0 0) (body-f e h ∙ q)
 
-  -- how many seats its lines go by, and where the first seat's body lies
+  -- how many seats its lines go by, and where the bodies of the first seat and of the balances lie
   pub written-seats : seatsIn (fileOf b o) ≡ seats b
   unfolding fileOf partsOf
   written-seats = seats-f
@@ -232,6 +258,11 @@ module _ (b : Book) (o : Option Grid) where
   unfolding fileOf partsOf
   first-at = first-look .body
 
+  pub balances-at : BodyAt (partsOf b o)
+      (seats b + windows b + length (flat (b .caps)) + lengthIf (flatIf o) + lengthIf (oneIf (b .first))) (entryOf (fileOf b o) 6) (b .balances)
+  unfolding fileOf partsOf
+  balances-at = balances-look .body
+
   module _ (fit : Fit b) (sheet : SheetFit b o) where
     -- ---- the parts that may be missing
 
@@ -239,7 +270,8 @@ module _ (b : Book) (o : Option Grid) where
     unfolding optParts
     grids =
         each-opt (GridPart (S * W)) 4 (flatIf o) tail (sheet-grid b o sheet)
-        (each-opt (GridPart (S * W)) 5 (oneIf (b .first)) [] (seat-grid (S * W) (b .first)) tt)
+        (each-opt (GridPart (S * W)) 5 (oneIf (b .first)) last (no-grid (S * W) 5 refl (oneIf (b .first)))
+        (each-opt (GridPart (S * W)) 6 (b .balances) [] (no-grid (S * W) 6 refl (b .balances)) tt))
 
     cells : seatsIn f * windowsIn f ≡ S * W
     cells = ap₂ (λ (x y : ℕ). x * y) seats-f windows-f
@@ -355,20 +387,35 @@ module _ (b : Book) (o : Option Grid) where
         ap (λ (n : ℕ). andThen (entryOf f 5) (wrongFields f 1 1 n)) seats-f
         ∙ fits-none ps ahead 1 1 S (entryOf f 5) (oneIf (b .first)) (first-look .body) (seat-list S (b .first) (fit .first-seat))
 
+    at19 : line19 f ≡ none
+    unfolding line19
+    at19 =
+        ap (λ (n : ℕ). andThen (entryOf f 6) (wrongFields f n 0 50000)) seats-f
+        ∙ fits-none ps behind S 0 50000 (entryOf f 6) (b .balances) (balances-look .body) (balances-list S (b .balances) (fit .balances-fit))
+
     no-line : firstOf (readLines f) ≡ none
     unfolding readLines contentsLines lengthLines valueLines optionLines
-    no-line = rw (at1, at2, at3, at4, at5, at6, at7, at8, at9, at10, at11, at12, at18)
+    no-line = rw (at1, at2, at3, at4, at5, at6, at7, at8, at9, at10, at11, at12, at18, at19)
 
     -- ---- what the file holds
 
-    abbrev made : List ℕ → List ℕ → Grid → Option ℕ → Book
-    made x y z k = record { classes = x; supplies = y; caps = z; first = k }
+    abbrev made : List ℕ → List ℕ → Grid → Option ℕ → Option (List ℕ) → Book
+    made x y z k xs = record { classes = x; supplies = y; caps = z; first = k; balances = xs }
 
     seat-at : (r k : Option ℕ) → BodyAt ps ahead r (oneIf k) → andThen r (λ e. some (field f (start f e))) ≡ k
     seat-at none none h = refl
     seat-at none (some x) h = absurd h
     seat-at (some e) none h = absurd h
     seat-at (some e) (some x) h = ap some (one-f e x (h .0) (h .1))
+
+    -- a number for each seat
+    list-at : (r : Option ℕ) (l : Option (List ℕ)) → BodyAt ps behind r l → BalancesFit S l
+        → andThen r (λ e. some (fieldsAt f (start f e) (seatsIn f))) ≡ l
+    list-at none none h g = refl
+    list-at none (some xs) h g = absurd h
+    list-at (some e) none h g = absurd h
+    list-at (some e) (some xs) h g =
+        ap some (ap (fieldsAt f (start f e)) (seats-f ∙ sym (g .0) ∙ ap length (sym (h .1))) ∙ body-f e (h .0) ∙ h .1)
 
     grid-f : (e : ℕ) (g : Grid) → e < length ps → nth ps e .body ≡ flat g → Shaped S W g
         → gridIn f e ≡ g
@@ -378,13 +425,15 @@ module _ (b : Book) (o : Option Grid) where
         (ap (λ (xs : List ℕ). fieldsAt f (start f e) (length xs)) (sym q) ∙ body-f e h ∙ q)
 
     book-is : bookOf f ≡ b
-    unfolding bookOf firstIn
+    unfolding bookOf firstIn balancesIn
     book-is =
-        ap₂ (λ (x y : List ℕ). made x y (gridIn f 2) (firstIn f))
+        ap₂ (λ (x y : List ℕ). made x y (gridIn f 2) (firstIn f) (balancesIn f))
         (ap (fieldsAt f (start f 0)) seats-f ∙ body-f 0 (omega arith))
         (ap (fieldsAt f (start f 1)) windows-f ∙ body-f 1 (omega arith))
-        ∙ ap₂ (made (b .classes) (b .supplies)) (grid-f 2 (b .caps) (omega arith) refl (fit .cap-shape))
-        (seat-at (entryOf f 5) (b .first) (first-look .body))
+        ∙ ap₂ (λ (z : Grid) (k : Option ℕ). made (b .classes) (b .supplies) z k (balancesIn f))
+        (grid-f 2 (b .caps) (omega arith) refl (fit .cap-shape)) (seat-at (entryOf f 5) (b .first) (first-look .body))
+        ∙ ap (made (b .classes) (b .supplies) (b .caps) (b .first))
+        (list-at (entryOf f 6) (b .balances) (balances-look .body) (fit .balances-fit))
 
     -- a grid of a kind that may be missing
     grid-at : (r : Option ℕ) (g : Option Grid) → SheetFit b g → BodyAt ps lists r (flatIf g)

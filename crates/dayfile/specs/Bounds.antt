@@ -1,7 +1,9 @@
 -- Paper 01, "The book", and paper 02: what holds of every book and sheet that a day file can hold.
 use mathlib.Core.Option.{Option, none, some}
+use mathlib.Core.Path.{_≡_}
+use mathlib.Core.List.{List}
 use Prim.Native.Nat.{ℕ, _≤_, _<_}
-use lib.ListN.{getD}
+use lib.ListN.{length, getD}
 use Rattle.model.specs.Book.{Book, Grid, Shaped, SheetOf, cell, seats, windows}
 
 -- a seat that is named as the first is one of the book's
@@ -9,7 +11,13 @@ abbrev pub FirstFit : ℕ → Option ℕ → Type 0
 FirstFit n none = Unit {0}
 FirstFit n (some k) = (1 ≤ k) × (k ≤ n)
 
--- 1 to 32 seats, 1 to 24 windows; classes 1 to 8; supplies and caps 0 to 4,095; a cap for each seat and window; a first seat of the book
+-- balances are one for each of n seats, 0 to 50,000
+abbrev pub BalancesFit : ℕ → Option (List ℕ) → Type 0
+BalancesFit n none = Unit {0}
+BalancesFit n (some xs) = (length xs ≡ n) × ((i : ℕ) → i < n → getD xs i 0 ≤ 50000)
+
+-- 1 to 32 seats, 1 to 24 windows; classes 1 to 8; supplies and caps 0 to 4,095; a cap for each seat and window; a first seat of the book;
+-- balances
 pub record Fit (b : Book) : Type 0 where
   pub seats-low : 1 ≤ seats b
   pub seats-high : seats b ≤ 32
@@ -21,6 +29,7 @@ pub record Fit (b : Book) : Type 0 where
   pub cap-shape : Shaped (seats b) (windows b) (b .caps)
   pub cap-high : (i j : ℕ) → i < seats b → j < windows b → cell (b .caps) i j ≤ 4095
   pub first-seat : FirstFit (seats b) (b .first)
+  pub balances-fit : BalancesFit (seats b) (b .balances)
 
 -- a sheet has one cell per seat and window; it may be missing
 abbrev pub SheetFit : Book → Option Grid → Type 0
@@ -32,6 +41,6 @@ abbrev pub TwoByte : Book → Option Grid → Type 0
 TwoByte b none = Unit {0}
 TwoByte b (some s) = (i j : ℕ) → i < seats b → j < windows b → cell s i j < 65536
 
--- the longest file has 32 seats, 24 windows, a sheet and a first seat
+-- the longest file has 32 seats, 24 windows, a sheet, a first seat and balances
 abbrev pub longestFile : ℕ
-longestFile = 3218
+longestFile = 3288

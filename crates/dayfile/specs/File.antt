@@ -1,4 +1,4 @@
--- Paper 01, "The day file", with paper 02's kind 5: the file of a book, with or without a sheet. A file is a list of parts, and its
+-- Paper 01, "The day file", with paper 02's kinds 5 and 6: the file of a book, with or without a sheet. A file is a list of parts, and its
 -- contents, its offsets and its bytes are computed from that list.
 use mathlib.Core.List.{List, [], _∷_, _++_}
 use mathlib.Core.Option.{Option, none, some}
@@ -59,7 +59,7 @@ optPart k (some xs) = part k xs ∷ []
 
 -- the parts that may be missing, in the order of their kinds
 unfoldable pub optParts : Book → Option Grid → List Part
-optParts b s = optPart 4 (flatIf s) ++ (optPart 5 (oneIf (b .first)) ++ [])
+optParts b s = optPart 4 (flatIf s) ++ (optPart 5 (oneIf (b .first)) ++ (optPart 6 (b .balances) ++ []))
 
 unfoldable pub partsOf : Book → Option Grid → List Part
 partsOf b s = part 1 (b .classes) ∷ part 2 (b .supplies) ∷ part 3 (flat (b .caps)) ∷ optParts b s

@@ -1,5 +1,5 @@
--- Paper 01, "The day file", with paper 02's kind 5: its fields, its table of contents, and the book and the sheet that it holds. Entries
--- count from 0.
+-- Paper 01, "The day file", with paper 02's kinds 5 and 6: its fields, its table of contents, and the book and the sheet that it holds.
+-- Entries count from 0.
 -- All of it is total: a byte past the file's end counts as 0.
 use mathlib.Core.Bool.{cond}
 use mathlib.Core.List.{List, []}
@@ -84,7 +84,11 @@ gridIn f e = gridAt f (start f e) (seatsIn f) (windowsIn f)
 unfoldable pub firstIn : List ℕ → Option ℕ
 firstIn f = andThen (entryOf f 5) (λ e. some (field f (start f e)))
 
--- kind 1: each seat's class; kind 2: each window's supply; kind 3: caps; kind 5: the first seat
+-- kind 6: one balance per seat; it may be missing
+unfoldable pub balancesIn : List ℕ → Option (List ℕ)
+balancesIn f = andThen (entryOf f 6) (λ e. some (fieldsAt f (start f e) (seatsIn f)))
+
+-- kind 1: each seat's class; kind 2: each window's supply; kind 3: caps; kind 5: the first seat; kind 6: balances
 unfoldable pub bookOf : List ℕ → Book
 bookOf f =
     record {
@@ -92,6 +96,7 @@ bookOf f =
       supplies = fieldsAt f (start f 1) (windowsIn f);
       caps = gridIn f 2;
       first = firstIn f;
+      balances = balancesIn f;
     }
 
 -- kind 4: the sheet, laid out as kind 3; it may be missing

@@ -9,7 +9,7 @@ use lib.Dec.{leb, ltb, eqb}
 use lib.ListN.{length}
 use Rattle.fairness.specs.Sums.{sum}
 use Rattle.model.specs.Lowest.{lowest, when, orElse, andThen, isSome}
-use Rattle.model.specs.Book.{Book}
+use Rattle.model.specs.Book.{Book, balancesOf}
 use Rattle.dayfile.specs.Layout.{field, count, contentsEnd, kind, start, size, kindAt, startAt, sizeAt, entryOf, ends}
 use Rattle.dayfile.specs.Layout.{seatsIn, windowsIn, bookOf}
 use Rattle.dayfile.specs.File.{fileOf}
@@ -28,7 +28,7 @@ wrongEntry at right f = offset at (lowest (count f) (λ e. not (right f e)))
 
 -- the last kind that is known
 abbrev pub known : ℕ
-known = 5
+known = 6
 
 -- ---- contents
 
@@ -36,7 +36,7 @@ known = 5
 unfoldable pub line1 : List ℕ → Option ℕ
 line1 f = when (ltb (length f) 2) (length f)
 
--- 2: entries not 3 to 5 | 0
+-- 2: entries not 3 to 6 | 0
 unfoldable pub line2 : List ℕ → Option ℕ
 line2 f = when (not (within 3 known (count f))) 0
 
@@ -114,6 +114,10 @@ wrongFields f n low high e = orElse (when (not (eqb (size f e) (2 * n))) (sizeAt
 unfoldable pub line18 : List ℕ → Option ℕ
 line18 f = andThen (entryOf f 5) (wrongFields f 1 1 (seatsIn f))
 
+-- 19: balances: length not 2 × seats, or a balance above 50,000 | that length field, or that value
+unfoldable pub line19 : List ℕ → Option ℕ
+line19 f = andThen (entryOf f 6) (wrongFields f (seatsIn f) 0 50000)
+
 -- ---- marker only
 
 -- 13: no sheet | 0
@@ -156,14 +160,15 @@ alike test [] (y ∷ ys) = false
 alike test (x ∷ xs) [] = false
 alike test (x ∷ xs) (y ∷ ys) = test x y && alike test xs ys
 
--- two books have the same numbers in force: classes, supplies, caps
+-- two books have the same numbers in force: classes, supplies, caps, balances
 unfoldable pub sameBook : Book → Book → Bool
 sameBook b c =
     alike eqb (b .classes) (c .classes)
     && (alike eqb (b .supplies) (c .supplies)
-    && alike (alike eqb) (b .caps) (c .caps))
+    && (alike (alike eqb) (b .caps) (c .caps)
+    && alike eqb (balancesOf b) (balancesOf c)))
 
--- 17: the class, supply or cap bodies of two files differ | 0
+-- 17: the class, supply or cap bodies of two files differ, or their balances | 0
 unfoldable pub line17 : List ℕ → List ℕ → Option ℕ
 line17 f g = when (not (sameBook (bookOf f) (bookOf g))) 0
 
@@ -208,7 +213,7 @@ valueLines f = line 10 (line10 f) ∷ line 11 (line11 f) ∷ line 12 (line12 f) 
 
 -- the lines of the kinds that may be missing
 unfoldable pub optionLines : List ℕ → List Line
-optionLines f = line 18 (line18 f) ∷ []
+optionLines f = line 18 (line18 f) ∷ line 19 (line19 f) ∷ []
 
 unfoldable pub markerLines : List ℕ → List Line
 markerLines f = line 13 (line13 f) ∷ line 14 (line14 f) ∷ line 15 (line15 f) ∷ []

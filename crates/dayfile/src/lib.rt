@@ -12,10 +12,10 @@ use sheet::Caps;
 use sheet::Sheet;
 
 // The last kind that is known.
-pub const KNOWN: usize = 5;
+pub const KNOWN: usize = 6;
 
 // The length of the longest file.
-pub const LONGEST_FILE: usize = 3218;
+pub const LONGEST_FILE: usize = 3288;
 
 // Where a line of the table of refusals holds.
 pub enum Found {
@@ -35,7 +35,8 @@ pub enum Written {
     Whole { length: usize },
 }
 
-// A book in memory, but for its caps. The seat that comes first, counted from 1, or its absence.
+// A book in memory, but for its caps. The seat that comes first, counted from 1, or its absence; the balances carried over, or their
+// absence.
 #[repr(C)]
 pub struct Book {
     pub seats: usize,
@@ -44,6 +45,8 @@ pub struct Book {
     pub supplies: [u16; 24],
     pub has_first: bool,
     pub first: u16,
+    pub has_balances: bool,
+    pub balances: [u16; 32],
 }
 
 // What a day file holds: a book with its caps, and a sheet or its absence. A field cannot be an array of arrays, so the caps are rows too.

@@ -25,13 +25,14 @@ pub record Shaped (n m : ℕ) (g : Grid) : Type 0 where
   pub rows : length g ≡ n
   pub row : (i : ℕ) → i < n → length (getD g i []) ≡ m
 
--- each seat's class, each window's supply, the most each seat can use in each window, and paper 02's seat that comes first today, counted
--- from 1, where one is named
+-- each seat's class, each window's supply, the most each seat can use in each window; paper 02's seat that comes first today, counted
+-- from 1, where one is named; and paper 02's balances carried over, one for each seat, where there are any
 pub record Book : Type 0 where
   pub classes : List ℕ
   pub supplies : List ℕ
   pub caps : Grid
   pub first : Option ℕ
+  pub balances : Option (List ℕ)
 
 abbrev pub seats : Book → ℕ
 seats b = length (b .classes)
@@ -41,7 +42,11 @@ windows b = length (b .supplies)
 
 -- the same book where another seat is named, or none
 abbrev pub withFirst : Option ℕ → Book → Book
-withFirst k b = record { classes = b .classes; supplies = b .supplies; caps = b .caps; first = k }
+withFirst k b = record { classes = b .classes; supplies = b .supplies; caps = b .caps; first = k; balances = b .balances }
+
+-- the same book with other balances, or with none
+abbrev pub withBalances : Option (List ℕ) → Book → Book
+withBalances xs b = record { classes = b .classes; supplies = b .supplies; caps = b .caps; first = b .first; balances = xs }
 
 -- the seat that comes first: without a name it is seat 1
 abbrev pub firstSeat : Book → ℕ
@@ -52,7 +57,16 @@ firstSeat b = getOr (b .first) 1
 unfoldable pub placeFrom : ℕ → ℕ → ℕ → ℕ
 placeFrom first n i = cond (ltb (i + 1) first) (n + i) i
 
--- heights start from 0, and the seat rule goes by the order from the first seat on
+-- paper 02's balance of a seat, the credits that it received on earlier days: without balances it is 0
+abbrev pub balanceOf : Book → ℕ → ℕ
+balanceOf b i = getD (getOr (b .balances) []) i 0
+
+-- each seat's balance
+unfoldable pub balancesOf : Book → List ℕ
+balancesOf b = table (seats b) (balanceOf b)
+
+-- heights start from the balances, so a level is balance plus total, divided by weight; the seat rule goes by the order from the first seat
+-- on
 unfoldable pub instanceOf : Book → Instance
 instanceOf b =
     record {
@@ -61,7 +75,7 @@ instanceOf b =
       cap = cell (b .caps);
       supply = λ j. getD (b .supplies) j 0;
       weight = λ i. weightOf (getD (b .classes) i 0);
-      base = λ i. 0;
+      base = balanceOf b;
       position = placeFrom (firstSeat b) (seats b);
     }
 

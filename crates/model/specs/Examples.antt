@@ -1,11 +1,11 @@
 -- Paper 01's starred examples, K1 to K10 and K12: a book, a sheet, its mark, the number of moves of the path that the mark
 -- reports, and the totals. Where paper 01 gives what is planned, the sheet is one with those totals, and settled. Behind them paper 02's
--- order of the seat rule, on books of our own.
+-- order of the seat rule, on books of our own, and its K5 with balances.
 use mathlib.Core.Path.{_≡_}
 use mathlib.Core.List.{List, [], _∷_}
 use mathlib.Core.Option.{none, some}
 use Prim.Native.Nat.{ℕ}
-use Rattle.model.specs.Book.{Book, Grid, SheetOf, Lawful, withFirst, totals}
+use Rattle.model.specs.Book.{Book, Grid, SheetOf, Lawful, withFirst, withBalances, totals}
 use Rattle.model.specs.Marks.{markOf, resultOf}
 
 pub record Example : Type 0 where
@@ -24,11 +24,15 @@ pub record Holds (e : Example) : Type 0 where
   pub summed : totals (e .book) (e .sheet) ≡ e .sums
 
 abbrev book : List ℕ → List ℕ → Grid → Book
-book classes supplies caps = record { classes = classes; supplies = supplies; caps = caps; first = none }
+book classes supplies caps = record { classes = classes; supplies = supplies; caps = caps; first = none; balances = none }
 
 -- a book with the seat that comes first
 abbrev firstIs : ℕ → Book → Book
 firstIs k b = withFirst (some k) b
+
+-- a book with balances
+abbrev carried : List ℕ → Book → Book
+carried xs b = withBalances (some xs) b
 
 abbrev example : Book → Grid → ℕ → ℕ → List ℕ → Example
 example b s mark moves sums = record { book = b; sheet = s; mark = mark; moves = moves; sums = sums }
@@ -102,4 +106,16 @@ examples =
     ∷ example (firstIs 2 three) ((1 ∷ []) ∷ (1 ∷ []) ∷ (2 ∷ []) ∷ []) 3 1 (1 ∷ 1 ∷ 2 ∷ [])
     -- seats of two weights do not tie: as in K7 the smaller one has the credit, whoever comes first
     ∷ example (firstIs 2 k7r) ((1 ∷ []) ∷ (0 ∷ []) ∷ []) 4 0 (1 ∷ 0 ∷ [])
+    -- K5 with balances 0 and 4, planned, and the sheet that K5 plans
+    ∷ example (carried (0 ∷ 4 ∷ []) k5) ((3 ∷ []) ∷ (1 ∷ []) ∷ []) 4 0 (3 ∷ 1 ∷ [])
+    ∷ example (carried (0 ∷ 4 ∷ []) k5) ((2 ∷ []) ∷ (2 ∷ []) ∷ []) 2 1 (2 ∷ 2 ∷ [])
+    -- balances of 0 are as none
+    ∷ example (carried (0 ∷ 0 ∷ []) k5) ((2 ∷ []) ∷ (2 ∷ []) ∷ []) 4 0 (2 ∷ 2 ∷ [])
+    -- the sheet that K3 plans, where seat 1 carries over one credit: its 1 + 2 against 1 improves. Where seat 2 does, 2 and 1 + 1 are even
+    ∷ example (carried (1 ∷ 0 ∷ []) k3) ((2 ∷ []) ∷ (1 ∷ []) ∷ []) 2 1 (2 ∷ 1 ∷ [])
+    ∷ example (carried (0 ∷ 1 ∷ []) k3) ((2 ∷ []) ∷ (1 ∷ []) ∷ []) 4 0 (2 ∷ 1 ∷ [])
+    -- where it carries over two, 2 against 2 + 1: the odd credit is seat 1's by the seat rule
+    ∷ example (carried (0 ∷ 2 ∷ []) k3) ((2 ∷ []) ∷ (1 ∷ []) ∷ []) 3 1 (2 ∷ 1 ∷ [])
+    -- a seat with a large balance and no credit gives nothing
+    ∷ example (carried (0 ∷ 50000 ∷ []) k3) ((3 ∷ []) ∷ (0 ∷ []) ∷ []) 4 0 (3 ∷ 0 ∷ [])
     ∷ []
