@@ -5,7 +5,7 @@
 
 A chain is its moves as in a listing, "window giver taker", with commas between moves: "mark 2: 1 2 1, 2 3 2". Its moves are drawn as
 arrows on one grid, under its title, and played for the next grid. A title without a chain shows the grid as it is then. The rows are
-seats, the columns windows; a cell shows credits and cap.
+seats, the columns windows; a cell shows credits and cap. A level is shown where it is not the total.
 """
 import struct
 import sys
@@ -20,12 +20,13 @@ MOVED = "#b03a2e"
 
 
 def read(data):
-    """Classes, supplies, caps and sheet of a day file that has all four."""
+    """Classes, supplies, caps, sheet and balances of a day file that has a sheet."""
     numbers = struct.unpack("<%dH" % (len(data) // 2), data)
-    parts = [numbers[start // 2:(start + length) // 2] for start, length in zip(numbers[2:13:3], numbers[3:13:3])]
-    classes, supplies, caps, sheet = parts
-    rows = range(0, len(caps), len(supplies))
-    return classes, supplies, [caps[i:i + len(supplies)] for i in rows], [list(sheet[i:i + len(supplies)]) for i in rows]
+    entries = list(zip(numbers[1::3], numbers[2::3], numbers[3::3]))[:numbers[0]]
+    parts = {kind: numbers[start // 2:(start + length) // 2] for kind, start, length in entries}
+    classes, supplies, caps, sheet = (parts[kind] for kind in (1, 2, 3, 4))
+    rows = [slice(i, i + len(supplies)) for i in range(0, len(caps), len(supplies))]
+    return classes, supplies, [caps[row] for row in rows], [list(sheet[row]) for row in rows], parts.get(6, [0] * len(classes))
 
 
 def panel_width(windows):
@@ -43,7 +44,14 @@ def draw_cells(picture, left, caps, sheet):
                 picture.text(x + CELL_WIDTH - 8, y + 31, "of %d" % cap, size=11, anchor="end", fill=GREY)
 
 
-def draw_sides(picture, left, classes, supplies, sheet):
+def level(weight, balance, total):
+    """A seat's level in words, if it is not just the total."""
+    if weight == 1:
+        return ", level %d" % (balance + total) if balance else ""
+    return ", level %d/%d" % (balance + total, weight)
+
+
+def draw_sides(picture, left, classes, supplies, sheet, balances):
     right, bottom = left + len(supplies) * CELL_WIDTH, TOP + len(sheet) * CELL_HEIGHT
     for window, supply in enumerate(supplies):
         middle = left + (window + 0.5) * CELL_WIDTH
@@ -54,9 +62,8 @@ def draw_sides(picture, left, classes, supplies, sheet):
     for seat, row in enumerate(sheet):
         y = TOP + seat * CELL_HEIGHT + 31
         picture.text(left - 10, y, "seat %d" % (seat + 1), size=12, anchor="end")
-        weight = WEIGHTS[classes[seat] - 1]
-        level = "" if weight == 1 else ", level %d/%d" % (sum(row), weight)
-        picture.text(right + 12, y, "total %d%s" % (sum(row), level), size=13)
+        words = level(WEIGHTS[classes[seat] - 1], balances[seat], sum(row))
+        picture.text(right + 12, y, "total %d%s" % (sum(row), words), size=13)
 
 
 def draw_moves(picture, left, moves):
@@ -86,7 +93,7 @@ def parse(words):
 
 def main(path, chains):
     with open(path, "rb") as file:
-        classes, supplies, caps, sheet = read(file.read())
+        classes, supplies, caps, sheet, balances = read(file.read())
     step = panel_width(len(supplies)) + GAP
     picture = Picture(step * len(chains) - GAP, TOP + len(sheet) * CELL_HEIGHT + 38)
     for place, words in enumerate(chains):
@@ -94,7 +101,7 @@ def main(path, chains):
         title, moves = parse(words)
         picture.text(left, 34, title, size=15, bold=True)
         draw_cells(picture, left, caps, sheet)
-        draw_sides(picture, left, classes, supplies, sheet)
+        draw_sides(picture, left, classes, supplies, sheet, balances)
         draw_moves(picture, left, moves)
         sheet = play(sheet, moves)
     print(picture, end="")

@@ -87,14 +87,15 @@ def curves(by_seats, by_windows):
     return picture
 
 
-def table(cases, head, columns):
-    """A table in Markdown, with the library's time over that of plain Rust, and the slowest book."""
-    lines = ["| %s |" % " | ".join([head] + columns + ["library / plain Rust", "slowest book"])]
-    lines.append("|---" + "|---:" * (len(columns) + 2) + "|")
+def table(cases, head, columns, over=("plain Rust",)):
+    """A table in Markdown, with the library's time over that of plain Rust, or of other columns, and the slowest book."""
+    ratios = ["library / %s" % column for column in over]
+    lines = ["| %s |" % " | ".join([head] + columns + ratios + ["slowest book"])]
+    lines.append("|---" + "|---:" * (len(columns) + len(ratios) + 1) + "|")
     for case, times in cases.items():
         numbers = ["{:,.1f}".format(times[column]) for column in columns]
-        ratio = "%.2f" % (times["library"] / times["plain Rust"])
-        lines.append("| %s |" % " | ".join([case] + numbers + [ratio, "{:,.1f}".format(times["longest"])]))
+        numbers += ["%.2f" % (times["library"] / times[column]) for column in over]
+        lines.append("| %s |" % " | ".join([case] + numbers + ["{:,.1f}".format(times["longest"])]))
     return "\n".join(lines)
 
 
@@ -106,6 +107,8 @@ def main():
     texts = {
         "plan": table(tables["plan"], "plan", two + ["settled alone", "other method", "max flow"]),
         "first": table(tables["first"], "plan, with any first seat", two + ["other method", "without it"]),
+        "balances": table(tables["balances"], "plan, with balances", two + ["other method", "without them"],
+                          over=("plain Rust", "without them")),
         "mark": table(tables["mark"], "mark", two),
         "better": table(tables["better"], "better", two),
         "file": table(tables["file"], "the longest file", two),

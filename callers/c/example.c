@@ -21,10 +21,12 @@ static_assert(offsetof(credits_book, has_sheet) == 1664, "has_sheet");
 static_assert(offsetof(credits_book, sheet) == 1668, "sheet");
 static_assert(offsetof(credits_book, has_first) == 3204, "has_first");
 static_assert(offsetof(credits_book, first) == 3208, "first");
-static_assert(sizeof(credits_book) == 3216, "credits_book");
+static_assert(offsetof(credits_book, has_balances) == 3212, "has_balances");
+static_assert(offsetof(credits_book, balances) == 3216, "balances");
+static_assert(sizeof(credits_book) == 3280, "credits_book");
 static_assert(offsetof(credits_read_result, offset) == 8, "offset of a read result");
 static_assert(offsetof(credits_read_result, book) == 16, "book");
-static_assert(sizeof(credits_read_result) == 3232, "credits_read_result");
+static_assert(sizeof(credits_read_result) == 3296, "credits_read_result");
 static_assert(offsetof(credits_write_result, offset) == 8, "offset of a write result");
 static_assert(offsetof(credits_write_result, length) == 16, "length");
 static_assert(sizeof(credits_write_result) == 24, "credits_write_result");
@@ -140,7 +142,7 @@ static size_t total(const credits_book *book, size_t seat) {
 static const char *const examples[] = {"k01", "k02", "k03",  "k04",  "k05", "k06", "k07",        "k08",
                                        "k09", "k10a", "k10b", "k11", "k12", "full-alone", "full-fixed", "full-ladder",
                                        "pair-a", "pair-b", "first-k03", "first-k04", "first-three", "full-first",
-                                       "standard"};
+                                       "standard", "balances-k05", "balances-k06", "balances-three", "full-balances"};
 
 static void try_example(const char *folder, const char *name) {
     bytes file = load(folder, name, ".day");
@@ -152,13 +154,14 @@ static void try_example(const char *folder, const char *name) {
     CHECK(fair.has_sheet == 1 && fair.seats == book.seats && fair.windows == book.windows);
     CHECK(memcmp(fair.caps, book.caps, sizeof book.caps) == 0);
     CHECK(fair.has_first == book.has_first && fair.first == book.first);
+    CHECK(fair.has_balances == book.has_balances && memcmp(fair.balances, book.balances, sizeof book.balances) == 0);
     bytes moves = block(CREDITS_MOVES_MAX);
     credits_mark_result m = credits_mark(plan.at, plan.length, moves.at, moves.length);
     CHECK(m.refusal == CREDITS_OK && m.offset == 0 && m.mark == CREDITS_SETTLED);
     CHECK(m.window == 0 && m.seat == 0 && m.moves == 0 && untouched(moves, 0));
     expect_listing(file, folder, name, ".listing");
     expect_listing(plan, folder, name, ".planned.listing");
-    printf("%-11s %2zu seats, %2zu windows: planned, %4zu bytes, mark 4\n", name, book.seats, book.windows, plan.length);
+    printf("%-14s %2zu seats, %2zu windows: planned, %4zu bytes, mark 4\n", name, book.seats, book.windows, plan.length);
     free(moves.at);
     free(plan.at);
     free(again.at);
@@ -261,10 +264,10 @@ static credits_better_result better(bytes first, bytes second) {
     return credits_better(first.at, first.length, second.at, second.length);
 }
 
-/* The sheet body is the last part of its file but for the first seat. */
+/* The sheet body is the last part of its file but for the first seat and the balances. */
 static int chosen(credits_better_result r, uint32_t number, bytes file) {
     credits_book book = book_in(file);
-    size_t length = 2 * book.seats * book.windows, after = book.has_first ? 2 : 0;
+    size_t length = 2 * book.seats * book.windows, after = (book.has_first ? 2 : 0) + (book.has_balances ? 2 * book.seats : 0);
     return r.refusal == CREDITS_OK && r.offset == 0 && r.file == number && r.start == file.length - after - length && r.length == length;
 }
 
@@ -283,7 +286,7 @@ static void try_better(const char *folder, const char *name) {
         int passes = m.mark == CREDITS_TIED || m.mark == CREDITS_SETTLED;
         CHECK(passes ? chosen(better(file, plan), 1, file) : chosen(better(file, plan), 2, plan));
         CHECK(chosen(better(plan, file), 1, plan) && chosen(better(file, file), 1, file));
-        printf("%-11s its sheet or the planned one: %s\n", name, passes ? "the first of them" : "the planned one");
+        printf("%-14s its sheet or the planned one: %s\n", name, passes ? "the first of them" : "the planned one");
     }
     free(moves.at);
     free(plan.at);
@@ -354,6 +357,56 @@ static void try_first_seats(const char *folder) {
     free(k03.at);
 }
 
+/* ---- balances carried over */
+
+static credits_book with_balances(credits_book book, uint16_t one, uint16_t other) {
+    book.has_balances = 1;
+    book.balances[0] = one;
+    book.balances[1] = other;
+    return book;
+}
+
+/* The book of two seats with these balances, planned: its totals. The file keeps the balances, zeros too. */
+static void expect_totals(credits_book book, uint16_t one, uint16_t other, size_t total_one, size_t total_other) {
+    bytes file = written(with_balances(book, one, other)), plan = planned(file);
+    credits_book fair = book_in(plan);
+    CHECK(fair.has_balances == 1 && fair.balances[0] == one && fair.balances[1] == other && fair.balances[2] == 0);
+    CHECK(plan.at[plan.length - 2] == other % 256 && plan.at[plan.length - 1] == other / 256);
+    CHECK(total(&fair, 0) == total_one && total(&fair, 1) == total_other);
+    printf("k05 with balances %u %u: totals %zu %zu\n", one, other, total(&fair, 0), total(&fair, 1));
+    free(plan.at);
+    free(file.at);
+}
+
+static void try_balances(const char *folder) {
+    bytes k05 = load(folder, "k05", ".day"), other = load(folder, "balances-k05", ".day");
+    bytes plan = planned(k05), other_plan = planned(other);
+    credits_book book = book_in(k05);
+    CHECK(book.has_balances == 0 && book.balances[0] == 0 && book.balances[1] == 0);
+    expect_totals(book, 0, 0, 2, 2);
+    expect_totals(book, 0, 4, 3, 1);
+    expect_totals(book, 0, 50000, 4, 0);
+    expect_totals(book, 50000, 0, 0, 4);
+    /* the sheet that is settled without balances can be improved with them */
+    credits_book fair = book_in(plan);
+    bytes spoilt = written(with_balances(fair, 0, 4)), zeros = written(with_balances(fair, 0, 0)), moves = block(CREDITS_MOVES_MAX);
+    credits_mark_result m = credits_mark(spoilt.at, spoilt.length, moves.at, moves.length);
+    CHECK(m.mark == CREDITS_IMPROVABLE && m.moves == 1 && memcmp(moves.at, "\1\2\1", 3) == 0 && untouched(moves, 3));
+    CHECK(chosen(better(spoilt, other_plan), 2, other_plan) && chosen(better(other_plan, spoilt), 1, other_plan));
+    /* other balances are of another book, and zeros are not */
+    CHECK(turned_away(better(plan, spoilt), CREDITS_REFUSED_OTHER_BOOK, 0, 0));
+    CHECK(turned_away(better(spoilt, zeros), CREDITS_REFUSED_OTHER_BOOK, 0, 0));
+    CHECK(zeros.length == plan.length + 6 + 4 && chosen(better(plan, zeros), 1, plan) && chosen(better(zeros, plan), 1, zeros));
+    printf("k05 planned without balances: improvable with 0 4, of another book, and of the same book as with zeros\n");
+    free(moves.at);
+    free(zeros.at);
+    free(spoilt.at);
+    free(other_plan.at);
+    free(plan.at);
+    free(other.at);
+    free(k05.at);
+}
+
 /* ---- refusals, which leave every buffer as it was */
 
 static int refused(credits_write_result r, uint32_t number, size_t offset) {
@@ -362,8 +415,8 @@ static int refused(credits_write_result r, uint32_t number, size_t offset) {
 
 static int all_zero(const credits_book *b) {
     static const credits_book zero;
-    return b->seats == 0 && b->windows == 0 && b->has_sheet == 0 && b->has_first == 0 && b->first == 0 &&
-           memcmp(b->classes, zero.classes, sizeof b->classes) == 0 &&
+    return b->seats == 0 && b->windows == 0 && b->has_sheet == 0 && b->has_first == 0 && b->first == 0 && b->has_balances == 0 &&
+           memcmp(b->balances, zero.balances, sizeof b->balances) == 0 && memcmp(b->classes, zero.classes, sizeof b->classes) == 0 &&
            memcmp(b->supplies, zero.supplies, sizeof b->supplies) == 0 && memcmp(b->caps, zero.caps, sizeof b->caps) == 0 &&
            memcmp(b->sheet, zero.sheet, sizeof b->sheet) == 0;
 }
@@ -441,6 +494,51 @@ static void try_wrong_first(const char *folder) {
     free(file.at);
 }
 
+/* No balance is above 50,000. */
+static void try_high_balances(const char *folder) {
+    static const uint16_t wrong[] = {50001, 65535};
+    bytes file = load(folder, "balances-k06", ".day"), out = block(CREDITS_FILE_MAX);
+    credits_book book = book_in(file);
+    bytes highest = written(with_balances(book, 50000, 50000));
+    CHECK(book_in(highest).balances[0] == 50000 && book_in(highest).balances[1] == 50000);
+    for (size_t i = 0; i < sizeof wrong / sizeof wrong[0]; i++) {
+        for (size_t seat = 0; seat < 2; seat++) {
+            bytes above = copy(highest.at, highest.length);
+            size_t at = above.length - 4 + 2 * seat;
+            above.at[at] = wrong[i] % 256;
+            above.at[at + 1] = wrong[i] / 256;
+            expect_refused(above, CREDITS_REFUSED_BALANCES, at);
+            credits_book spoilt = with_balances(book, seat == 0 ? wrong[i] : 0, wrong[i]);
+            CHECK(refused(credits_write(spoilt, out.at, out.length), CREDITS_REFUSED_BALANCES, at) && untouched(out, 0));
+            free(above.at);
+        }
+    }
+    free(highest.at);
+    free(out.at);
+    free(file.at);
+}
+
+/* There is a balance for each seat. Those of seats that are not in the book are not looked at, and where there are none, no number is. */
+static void try_wrong_balances(const char *folder) {
+    bytes file = load(folder, "balances-k06", ".day");
+    credits_book book = book_in(file);
+    CHECK(book.has_balances == 1 && book.balances[0] == 0 && book.balances[1] == 4 && book.balances[2] == 0);
+    book.has_balances = 7; /* any number but 0 */
+    book.balances[2] = 65535;
+    bytes with = written(book);
+    CHECK(same(with.at, file, with.length));
+    book.has_balances = 0;
+    book.balances[0] = 65535;
+    bytes without = written(book);
+    CHECK(without.length == file.length - 6 - 4 && book_in(without).has_balances == 0 && book_in(without).balances[0] == 0);
+    file.at[30] = 2; /* the length of the balances, which end the file: one seat's */
+    file.length -= 2;
+    expect_refused(file, CREDITS_REFUSED_BALANCES, 30);
+    free(without.at);
+    free(with.at);
+    free(file.at);
+}
+
 static void try_books(const char *folder) {
     bytes file = load(folder, "k08", ".day"), out = block(CREDITS_FILE_MAX);
     credits_book book = book_in(file);
@@ -471,9 +569,12 @@ int main(int argc, char **argv) {
     try_standard(folder);
     for (size_t i = 0; i < sizeof examples / sizeof examples[0]; i++) try_better(folder, examples[i]);
     try_first_seats(folder);
+    try_balances(folder);
     try_refused_pairs(folder);
     try_refused_files(folder);
     try_wrong_first(folder);
+    try_high_balances(folder);
+    try_wrong_balances(folder);
     try_short_buffers(folder);
     try_books(folder);
     printf("C: %d checks passed\n", checks);

@@ -4,20 +4,30 @@ import os
 from typing import NamedTuple
 
 SEATS, WINDOWS = 32, 24
-FILE_MAX, MOVES_MAX, LISTING_MAX = 3218, 93, 3453
+FILE_MAX, MOVES_MAX, LISTING_MAX = 3288, 93, 3453
 WASTEFUL, IMPROVABLE, TIED, SETTLED = 1, 2, 3, 4
 
 Row = ctypes.c_uint16 * WINDOWS
 Grid = Row * SEATS
 
 
+def in_field(number):
+    """The number, if a field of two bytes can hold it: a C number would wrap."""
+    if not 0 <= number <= 65535:
+        raise ValueError(f'{number} in a field of two bytes')
+    return number
+
+
 class Book(ctypes.Structure):
     """A book in memory; seats and windows count from 0. There is a sheet unless has_sheet is 0.
 
-    Unless has_first is 0, `first` is the seat that comes first today, counted from 1; `first_seat` has None in place of the two."""
+    Unless has_first is 0, `first` is the seat that comes first today, counted from 1; `first_seat` has None in place of the two.
+    Unless has_balances is 0, `balances` are what the seats received on earlier days, 0 to 50,000; `carried` is a list of one for each
+    seat, or None. Set it after `seats`."""
     _fields_ = [('seats', ctypes.c_size_t), ('windows', ctypes.c_size_t), ('classes', ctypes.c_uint16 * SEATS),
                 ('supplies', Row), ('caps', Grid), ('has_sheet', ctypes.c_uint32), ('sheet', Grid),
-                ('has_first', ctypes.c_uint32), ('first', ctypes.c_uint16)]
+                ('has_first', ctypes.c_uint32), ('first', ctypes.c_uint16),
+                ('has_balances', ctypes.c_uint32), ('balances', ctypes.c_uint16 * SEATS)]
 
     @property
     def first_seat(self):
@@ -25,9 +35,18 @@ class Book(ctypes.Structure):
 
     @first_seat.setter
     def first_seat(self, seat):
-        if seat is not None and not 0 <= seat <= 65535:  # a C number would wrap
-            raise ValueError(f'a seat of {seat}')
-        self.has_first, self.first = (0, 0) if seat is None else (1, seat)
+        self.has_first, self.first = (0, 0) if seat is None else (1, in_field(seat))
+
+    @property
+    def carried(self):
+        return list(self.balances[:self.seats]) if self.has_balances else None
+
+    @carried.setter
+    def carried(self, balances):
+        row = [in_field(balance) for balance in balances or []]
+        if balances is not None and len(row) != self.seats:
+            raise ValueError(f'{len(row)} balances for {self.seats} seats')
+        self.has_balances, self.balances = int(balances is not None), (ctypes.c_uint16 * SEATS)(*row)
 
     def total(self, seat):
         return sum(self.sheet[seat][:self.windows])

@@ -24,11 +24,12 @@ def try_example(day):
     book = credits.read(file)
     assert credits.write(book) == file
     plan = credits.plan(file)
-    assert credits.read(plan).first_seat == book.first_seat
+    fair = credits.read(plan)
+    assert (fair.first_seat, fair.carried) == (book.first_seat, book.carried)
     assert credits.mark(plan) == (credits.SETTLED, 0, 0, [])
     assert credits.listing(file) == day.with_suffix('.listing').read_text()
     assert credits.listing(plan) == day.with_suffix('.planned.listing').read_text()
-    print(f'{day.stem:11} {book.seats:2} seats, {book.windows:2} windows: planned, {len(plan):4} bytes, mark 4')
+    print(f'{day.stem:14} {book.seats:2} seats, {book.windows:2} windows: planned, {len(plan):4} bytes, mark 4')
 
 
 def try_chain():
@@ -109,6 +110,32 @@ def try_first_seats():
     print('first seats that are not in the book: refused')
 
 
+def try_balances():
+    """K5's book with balances: who received much gets less. Then balances that are too high, and other books by their balances."""
+    k05 = (FOLDER / 'k05.day').read_bytes()
+    book = credits.read(k05)
+    assert book.carried is None
+    plans = {}
+    for balances, expected in ((None, [2, 2]), ((0, 0), [2, 2]), ((0, 4), [3, 1]), ((50000, 0), [0, 4])):
+        book.carried = balances
+        plans[balances] = credits.plan(credits.write(book))
+        fair = credits.read(plans[balances])
+        totals = [fair.total(i) for i in range(fair.seats)]
+        assert fair.carried == (None if balances is None else list(balances)) and totals == expected
+        print('k05', f'with balances {balances}:' if balances else 'without balances:', 'totals', *totals)
+    assert plans[0, 4] == credits.plan((FOLDER / 'balances-k05.day').read_bytes())
+    assert credits.better(plans[None], plans[0, 0]).file == credits.better(plans[0, 0], plans[None]).file == 1
+    for first, second in ((None, (0, 4)), ((0, 4), (0, 0)), ((0, 4), (50000, 0))):
+        assert refusal(credits.better, plans[first], plans[second]) == (17, 0, 0)
+    print('k05 without balances and with zeros: one book; with others: other books')
+    for balance in (50001, 65535):
+        book.carried = [50000, balance]
+        assert refusal(credits.write, book) == (19, 38)
+        for call in (credits.read, credits.plan, credits.mark):
+            assert refusal(call, plans[0, 4][:-2] + balance.to_bytes(2, 'little')) == (19, 48)
+    print('balances that are too high: refused')
+
+
 def try_refusals():
     k11 = (FOLDER / 'k11.day').read_bytes()
     for file, number, offset in ((b'', 1, 0), (k11[:-1], 6, 25), (k11 + b'\0', 6, 27)):
@@ -134,5 +161,6 @@ try_chain()
 try_standard()
 try_better()
 try_first_seats()
+try_balances()
 try_refusals()
 print('Python: all checks passed')
