@@ -5,7 +5,7 @@ ghost use mathlib.Core.Option.{none, some};
 ghost use Prim.Native.Nat.{_<_};
 ghost use Rattle.model.specs.Lowest.{getOr, isSome, andThen};
 ghost use Rattle.sheet.specs.Sheets.{gridOf};
-ghost use Rattle.dayfile.specs.Layout.{field, start, seatsIn, windowsIn, gridIn, bookOf, sheetOf};
+ghost use Rattle.dayfile.specs.Layout.{field, fieldsAt, start, seatsIn, windowsIn, gridIn, bookOf, sheetOf};
 ghost use Rattle.dayfile.specs.Memory.{Holds, Under, found, sized, held, noBook};
 use dayfile::Book;
 use dayfile::Day;
@@ -43,6 +43,18 @@ fn field_of(file: &[u8], entry: Found) -> u16
     0
 }
 
+// The n fields that are the body of an entry; all numbers are 0 where there is none.
+fn list_of(file: &[u8], entry: Found, n: usize) -> [u16; 32]
+    requires { ⌜ Under 65536 (found entry) × (n < 32768) ⌝ }
+    ensures { λ r. ⌜ r ≡ sized 32 (getOr (andThen (found entry)
+        (λ e. some (fieldsAt (now (file .entry)) (start (now (file .entry)) e) n))) []) ⌝ }
+{
+    if let Found::At(e) = entry {
+        return array32(file, start(file, e), n);
+    }
+    [0u16; 32]
+}
+
 // The book, but for its caps.
 fn book_of(file: &[u8]) -> Book
     ensures seats { λ r. ⌜ r .seats ≡ seatsIn (now (file .entry)) ⌝ }
@@ -51,6 +63,8 @@ fn book_of(file: &[u8]) -> Book
     ensures supplies { λ r. ⌜ r .supplies ≡ sized 24 (bookOf (now (file .entry)) .supplies) ⌝ }
     ensures has_first { λ r. ⌜ r .«has_first» ≡ isSome (bookOf (now (file .entry)) .first) ⌝ }
     ensures first { λ r. ⌜ r .first ≡ getOr (bookOf (now (file .entry)) .first) 0 ⌝ }
+    ensures has_balances { λ r. ⌜ r .«has_balances» ≡ isSome (bookOf (now (file .entry)) .balances) ⌝ }
+    ensures balances { λ r. ⌜ r .balances ≡ sized 32 (getOr (bookOf (now (file .entry)) .balances) []) ⌝ }
 {
     let seats = seats(file);
     let windows = windows(file);
@@ -59,6 +73,9 @@ fn book_of(file: &[u8]) -> Book
     let entry = entry_of(file, 5);
     let has_first = is_there(entry);
     let first = field_of(file, entry);
+    let carried = entry_of(file, 6);
+    let has_balances = is_there(carried);
+    let balances = list_of(file, carried, seats);
     Book {
         seats,
         windows,
@@ -66,6 +83,8 @@ fn book_of(file: &[u8]) -> Book
         supplies,
         has_first,
         first,
+        has_balances,
+        balances,
     }
 }
 
@@ -116,6 +135,8 @@ pub fn no_day() -> Day
         supplies: [0u16; 24],
         has_first: false,
         first: 0,
+        has_balances: false,
+        balances: [0u16; 32],
     };
     Day {
         book,

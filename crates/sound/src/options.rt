@@ -36,7 +36,7 @@ fn wrong_body(file: &[u8], kind: usize, n: usize, low: usize, high: usize) -> Fo
     Found::Nothing
 }
 
-// Line 18: the first seat.
+// Lines 18 and 19: the first seat, and the balances.
 pub fn check_options(file: &[u8]) -> Check
     ensures { λ r. ⌜ refused r ≡ firstOf (optionLines (now (file .entry))) ⌝ }
 {
@@ -44,7 +44,7 @@ pub fn check_options(file: &[u8]) -> Check
     first_of(
         18,
         wrong_body(file, 5, 1, 1, n),
-        Found::Nothing,
+        wrong_body(file, 6, n, 0, 50000),
         Found::Nothing,
     )
 }

@@ -1,7 +1,7 @@
 -- What is stored is the file: its contents by one step for each slot, then its bodies.
 -- Assumes nothing.
 use mathlib.Core.Bool.{Bool, true, false}
-use mathlib.Core.List.{List, [], _∷_, _++_}
+use mathlib.Core.List.{List, [], _∷_, _++_, append-nil}
 use mathlib.Core.Option.{Option, none, some}
 use mathlib.Core.Path.{_≡_, refl, sym, _∙_, ap, ap₂, subst}
 use Prim.Native.Nat.{ℕ, _+_, _*_, _≤_, _<_}
@@ -20,7 +20,7 @@ use Rattle.dayfile.proofs.Tables.{sized-length}
 use Rattle.dayfile.proofs.Fields.{length-bytes}
 use Rattle.dayfile.proofs.Grids.{flat-append, sized-flat-length}
 use Rattle.store.specs.Stores.{Room, Put, sizeIf, fieldsIf, total, count, size, entry, entries, sizes, entriesAt}
-use Rattle.store.specs.Stores.{head, slot, slotsOf, listFields, firstFields}
+use Rattle.store.specs.Stores.{head, slot, slotsOf, listFields, optionFields}
 use Rattle.store.specs.declared.contents.Slot.{Slot}
 use Rattle.store.proofs.Storing.{Begun, begun-first, begun-room, begun-next, begun-end, put-as, put-end, put-front, room-as, grid-if}
 
@@ -139,6 +139,7 @@ slots-fit b t e h =
     let q = mul-le-mul (h .0) (h .1) in
     let s = size-most t (b .seats * b .windows) in
     let k = size-most (b .«has_first») 1 in
+    let l = size-most (b .«has_balances») (b .seats) in
     let small : sizes (slotsOf b t) < 30000 = omega (arith, h) in (ap length e, subst (λ (xs : List Slot). sizes xs < 30000) (sym e) small)
 
 -- ---- a book with its caps, with or without a sheet
@@ -168,6 +169,7 @@ module _ (b : Memory.Book) (caps : Grid) (t : Bool) (sheet : Grid) where
       ∷ record { at = slot 3 true (n * m); body = cells caps; long = sized-flat-length n m caps }
       ∷ record { at = slot 4 t (n * m); body = cells sheet; long = sized-flat-length n m sheet }
       ∷ record { at = slot 5 (b .«has_first») 1; body = b .first ∷ []; long = refl }
+      ∷ record { at = slot 6 (b .«has_balances») n; body = sized n (b .balances); long = sized-length n (b .balances) }
       ∷ []
 
   slots-are : slots all ≡ slotsOf b t
@@ -182,6 +184,10 @@ module _ (b : Memory.Book) (caps : Grid) (t : Bool) (sheet : Grid) where
   first-one true = refl
   first-one false = refl
 
+  balances-each : (u : Bool) → when u (sized n (b .balances)) ≡ ifThere u (sized n (b .balances))
+  balances-each true = refl
+  balances-each false = refl
+
   parts-are : partsWith b caps t sheet ≡ parts all
   unfolding partsWith partsOf optParts optPart bookIn
   parts-are =
@@ -190,27 +196,33 @@ module _ (b : Memory.Book) (caps : Grid) (t : Bool) (sheet : Grid) where
       ∷ record { sort = 2; body = sized m (b .supplies) }
       ∷ record { sort = 3; body = cells caps }
       ∷ ps in
-      ap₂ (λ (o k : Option (List ℕ)). front (optPart 4 o ++ (optPart 5 k ++ []))) (sheet-flat t) (first-one (b .«has_first»))
+      let there : Option (List ℕ) = when (b .«has_balances») (sized n (b .balances)) in
+      ap₂ (λ (o k : Option (List ℕ)). front (optPart 4 o ++ (optPart 5 k ++ (optPart 6 there ++ []))))
+      (sheet-flat t) (first-one (b .«has_first»))
+      ∙ ap (λ (k : Option (List ℕ)).
+      front (optPart 4 (ifThere t (cells sheet)) ++ (optPart 5 (ifThere (b .«has_first») (b .first ∷ [])) ++ (optPart 6 k ++ []))))
+      (balances-each (b .«has_balances»))
 
   pub parts-count : length (partsWith b caps t sheet) ≡ entries (slotsOf b t)
   parts-count = ap length parts-are ∙ count-is all ∙ ap entries slots-are
 
-  -- what is stored, run by run: first the contents, then the bodies; a further kind is one run more
+  -- what is stored, run by run: first the contents, then the bodies
   abbrev stored : List (List ℕ)
   stored =
       head (slotsOf b t)
       ∷ listFields b
       ∷ cells caps
       ∷ fieldsIf t (cells sheet)
-      ∷ firstFields b
+      ∷ optionFields b
       ∷ []
 
-  -- the first two bodies are one run
+  -- the first two bodies are one run, and so are those from the first seat on
   stored-are : head (slots all) ++ flat (runs all) ≡ flat stored
   unfolding flat
   stored-are =
       ap₂ (λ (ss : List Slot) (ws : List ℕ). head ss ++ ws) slots-are
-      (flat-append (sized n (b .classes) ∷ sized m (b .supplies) ∷ []) (drop 2 stored))
+      (flat-append (sized n (b .classes) ∷ sized m (b .supplies) ∷ []) (drop 2 (runs all))
+      ∙ ap (λ (ws : List ℕ). listFields b ++ (cells caps ++ (fieldsIf t (cells sheet) ++ ws))) (sym (append-nil (optionFields b))))
 
   fields-stored : fieldsOf (length (partsWith b caps t sheet)) (partsWith b caps t sheet) ≡ head (slots all) ++ flat (runs all)
   fields-stored = ap (λ (ps : List Part). fieldsOf (length ps) ps) parts-are ∙ fields-are all

@@ -12,7 +12,7 @@ use Rattle.lists.proofs.Buffers.{stored-none, stored-next, stored-as, stored-le
 use Rattle.model.specs.Book.{Grid}
 use Rattle.dayfile.specs.File.{bytesOf, flat}
 use Rattle.dayfile.specs.Memory.{sized, sizedGrid}
-use Rattle.dayfile.proofs.Tables.{sized-length, sized-more}
+use Rattle.dayfile.proofs.Tables.{sized-length, sized-more, sized-one}
 use Rattle.dayfile.proofs.Fields.{length-bytes, bytes-append}
 use Rattle.dayfile.proofs.Grids.{sized-flat-length, sized-flat-none, sized-flat-more}
 use Rattle.store.specs.Stores.{Room, Put, sizeIf, fieldsIf}
@@ -133,6 +133,9 @@ pub list-if : (t : Bool) (n : ℕ) (xs : List ℕ) → sized (sizeIf t n) xs ≡
 unfolding sized table
 list-if true n xs = refl
 list-if false n xs = refl
+
+pub one-if : (t : Bool) (x : ℕ) → sized (sizeIf t 1) (x ∷ []) ≡ fieldsIf t (x ∷ [])
+one-if t x = list-if t 1 (x ∷ []) ∙ ap (fieldsIf t) (sized-one x)
 
 pub grid-if : (t : Bool) (n m : ℕ) (g : Grid) → flat (sizedGrid (sizeIf t n) m g) ≡ fieldsIf t (flat (sizedGrid n m g))
 grid-if true n m g = refl

@@ -75,6 +75,7 @@ slotsOf b hasSheet =
     ∷ slot 3 true (b .seats * b .windows)
     ∷ slot 4 hasSheet (b .seats * b .windows)
     ∷ slot 5 (b .«has_first») 1
+    ∷ slot 6 (b .«has_balances») (b .seats)
     ∷ []
 
 abbrev pub slotsIn : Day → List Slot
@@ -84,6 +85,7 @@ slotsIn d = slotsOf (d .book) (d .«has_sheet»)
 abbrev pub listFields : Memory.Book → List ℕ
 listFields b = flat (sized (b .seats) (b .classes) ∷ sized (b .windows) (b .supplies) ∷ [])
 
--- the body of the first seat, where it is there
-abbrev pub firstFields : Memory.Book → List ℕ
-firstFields b = fieldsIf (b .«has_first») (b .first ∷ [])
+-- the bodies that may be missing and are no grids, where they are there: the first seat and the balances
+abbrev pub optionFields : Memory.Book → List ℕ
+optionFields b =
+    flat (fieldsIf (b .«has_first») (b .first ∷ []) ∷ fieldsIf (b .«has_balances») (sized (b .seats) (b .balances)) ∷ [])

@@ -1,8 +1,8 @@
 // The bodies of the file of a day in memory that are no grids. A grid is stored by `put_file` itself, by `put_rows`: it is 1.5 KB that
 // each further call would copy.
-ghost use Rattle.store.specs.Stores.{Room, Put, listFields, firstFields};
-use super::numbers::put;
+ghost use Rattle.store.specs.Stores.{Room, Put, listFields, optionFields};
 use super::numbers::put_all;
+use super::numbers::size_if;
 use dayfile::Book;
 
 // The classes and the supplies.
@@ -16,13 +16,13 @@ pub fn put_lists(buf: &mut [u8], at: usize, book: Book) -> usize
     put_all(buf, p, &supplies, book.windows)
 }
 
-// The first seat, where it is there.
-pub fn put_first(buf: &mut [u8], at: usize, book: Book) -> usize
-    requires { ⌜ Room (now buf) at (firstFields book) ⌝ }
-    ensures { λ r. ⌜ Put (now (buf .entry)) at (firstFields book) r (now (buf .exit)) ⌝ }
+// The first seat and the balances; what is missing has no fields.
+pub fn put_options(buf: &mut [u8], at: usize, book: Book) -> usize
+    requires { ⌜ Room (now buf) at (optionFields book) ⌝ }
+    ensures { λ r. ⌜ Put (now (buf .entry)) at (optionFields book) r (now (buf .exit)) ⌝ }
 {
-    if book.has_first {
-        return put(buf, at, book.first as usize);
-    }
-    at
+    let first = [book.first];
+    let balances = book.balances;
+    let p = put_all(buf, at, &first, size_if(book.has_first, 1));
+    put_all(buf, p, &balances, size_if(book.has_balances, book.seats))
 }

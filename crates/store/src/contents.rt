@@ -57,6 +57,11 @@ pub fn slots_of(book: Book, has_sheet: bool) -> [Slot; KNOWN]
             there: book.has_first,
             fields: 1,
         },
+        Slot {
+            kind: 6,
+            there: book.has_balances,
+            fields: book.seats,
+        },
     ]
 }
 

@@ -4,8 +4,8 @@ ghost use Prim.Native.Nat.{_≤_};
 ghost use lib.ListN.{length};
 ghost use Rattle.model.specs.Book.{Grid};
 ghost use Rattle.dayfile.specs.Memory.{fileWith, front};
-use bodies::put_first;
 use bodies::put_lists;
+use bodies::put_options;
 use contents::count_entries;
 use contents::count_fields;
 use contents::put_contents;
@@ -28,7 +28,7 @@ pub fn file_length(book: Book, has_sheet: bool) -> usize
     2 + 6 * count_entries(slots) + 2 * count_fields(slots)
 }
 
-// The file at the front of a buffer that is long enough. A sheet that is missing has no rows. A further kind is one more put at the end.
+// The file at the front of a buffer that is long enough. A sheet that is missing has no rows. A further kind goes to `put_options`.
 // The day comes in its parts, its two grids lent: whole, it would be copied.
 pub fn put_file(out: &mut [u8], book: Book, caps: &Caps, has_sheet: bool, sheet: &Caps) -> usize
     requires { ⌜ (book .seats ≤ 32) × (book .windows ≤ 24) ⌝ }
@@ -42,5 +42,5 @@ pub fn put_file(out: &mut [u8], book: Book, caps: &Caps, has_sheet: bool, sheet:
     let p = put_lists(out, p, book);
     let p = put_rows(out, p, caps, book.seats, book.windows);
     let p = put_rows(out, p, sheet, rows, book.windows);
-    put_first(out, p, book)
+    put_options(out, p, book)
 }

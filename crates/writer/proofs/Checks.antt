@@ -17,7 +17,7 @@ use Rattle.sheet.specs.declared.Sheet.{Sheet}
 use Rattle.dayfile.specs.Layout.{field, entriesIn, contentsEnd, start, size, sizeAt, seatsIn, windowsIn, entryOf}
 use Rattle.dayfile.specs.File.{Part, assemble, flat, flatIf, oneIf, partsOf, fileOf}
 use Rattle.dayfile.specs.Table.{Line, Refusal, line, refuse, firstOf, within, offset, sizeRight, outside, wrongFields}
-use Rattle.dayfile.specs.Table.{line7, line8, line10, line11, line12, line16, line18}
+use Rattle.dayfile.specs.Table.{line7, line8, line10, line11, line12, line16, line18, line19}
 use Rattle.dayfile.specs.Table.{valueLines, optionLines, bufferLines, writeLines}
 use Rattle.dayfile.specs.Memory.{sized, sizedGrid, bookIn, sheetIn, fileWith, fileIn, front, Writes}
 use Rattle.dayfile.specs.declared.Book as Memory
@@ -33,7 +33,7 @@ use Rattle.dayfile.proofs.Grids.{sized-flat-length}
 use Rattle.dayfile.proofs.Container.{nth, before, start-is, size-is, body-is}
 use Rattle.dayfile.proofs.Sound.{kept}
 use Rattle.dayfile.proofs.Optional.{lengthIf, IfThere, BodyAt}
-use Rattle.dayfile.proofs.WrittenReads.{written-seats, first-at}
+use Rattle.dayfile.proofs.WrittenReads.{written-seats, first-at, balances-at}
 use Rattle.dayfile.proofs.Held.{seats-in}
 use Rattle.store.specs.Stores.{sizeIf, fieldsIf, entries, slotsOf, slotsIn}
 use Rattle.store.proofs.Storing.{list-if}
@@ -254,7 +254,7 @@ values-told d {at} e f g =
     ∷ []) (sym e) (sym f)
     ∙ sym (values-are d at g)
 
--- ---- the first seat
+-- ---- the parts that may be missing and are no grids
 
 module _ (m : Memory.Book) (caps : Grid) (t : Bool) (sheet : Grid) where
   abbrev cellCount : ℕ
@@ -299,6 +299,32 @@ module _ (m : Memory.Book) (caps : Grid) (t : Bool) (sheet : Grid) where
       ∙ sym (body-line (partsOf (bookIn m caps) (sheetIn m t sheet)) _ 1 1 (m .seats) p (first-starts e q) (entryOf f 5) _
       (first-at (bookIn m caps) (sheetIn m t sheet)) (one-long (when (m .«has_first») (m .first))))
       ∙ ap (λ (n : ℕ). andThen (entryOf f 5) (wrongFields f 1 1 n))
+      (sym (written-seats (bookIn m caps) (sheetIn m t sheet) ∙ seats-in m caps))
+
+  -- the balances are one number for each seat, behind the first seat
+  each-long : (u : Bool) → IfThere (λ xs. length xs ≡ m .seats) (when u (sized (m .seats) (m .balances)))
+  each-long true = sized-length (m .seats) (m .balances)
+  each-long false = tt
+
+  one-size : (u : Bool) → lengthIf (oneIf (when u (m .first))) ≡ sizeIf u 1
+  one-size true = refl
+  one-size false = refl
+
+  -- line 19 by what the code has at hand
+  pub balances-told : {at k one : ℕ} → at ≡ contentsEnd (entries (slotsOf m t))
+      → k ≡ m .seats + m .windows + m .seats * m .windows + sizeIf t (m .seats * m .windows) → one ≡ sizeIf (m .«has_first») 1
+      → outsideIn (sized (sizeIf (m .«has_balances») (m .seats)) (m .balances)) (at + 2 * k + 2 * one) 0 50000
+      ≡ line19 (fileWith m caps t sheet)
+  unfolding fileWith fileOf bookIn line19
+  balances-told {at} {k} {one} e q r =
+      let p : ℕ = at + 2 * k + 2 * one in
+      let f : List ℕ = fileWith m caps t sheet in
+      let b = first-starts e q in
+      let l = one-size (m .«has_first») in
+      if-there (m .«has_balances») (m .seats) (m .balances) p 0 50000
+      ∙ sym (body-line (partsOf (bookIn m caps) (sheetIn m t sheet)) _ (m .seats) 0 50000 p (omega arith) (entryOf f 6) _
+      (balances-at (bookIn m caps) (sheetIn m t sheet)) (each-long (m .«has_balances»)))
+      ∙ ap (λ (n : ℕ). andThen (entryOf f 6) (wrongFields f n 0 50000))
       (sym (written-seats (bookIn m caps) (sheetIn m t sheet) ∙ seats-in m caps))
 
 -- ---- what the writer answers, by where its refusal comes from

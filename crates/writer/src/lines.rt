@@ -105,11 +105,14 @@ fn check_options(book: Book, has_sheet: bool, at: usize) -> Check
         → refused r ≡ firstOf (optionLines (fileWith book caps «has_sheet» sheet))) ⌝ }
 {
     let first = [book.first];
+    let balances = book.balances;
+    let one = size_if(book.has_first, 1);
+    let each = size_if(book.has_balances, book.seats);
     let p = at + 2 * ahead_of_first(book, has_sheet);
     first_of(
         18,
-        outside_in(&first, size_if(book.has_first, 1), p, 1, book.seats),
-        Found::Nothing,
+        outside_in(&first, one, p, 1, book.seats),
+        outside_in(&balances, each, p + 2 * one, 0, 50000),
         Found::Nothing,
     )
 }

@@ -45,8 +45,8 @@ put-rows-requires-2 c κs =
     let k = begun-next (begun-next b (q .put-lists .ensures)) (r .put-rows .ensures) in
     (omega (arith, n .1, s .pre .0 .0), sheet-room (a .book) (a .has-sheet) (a .sheet .now) (n .0) (begun-room k))
 
-put-first-requires : tie.Need-put-first-requires
-put-first-requires c κs =
+put-options-requires : tie.Need-put-options-requires
+put-options-requires c κs =
     let t = c .before .before .before in
     let r = t .before .before .before .before in
     let q = r .before .before .before .before in
@@ -74,10 +74,10 @@ returns c =
     let k = begun-next (begun-next b (q .put-lists .ensures)) (r .put-rows .ensures) in
     let l = begun-next k (sheet-put (a .book) (a .has-sheet) (a .sheet .now) (n .0) (t .put-rows2 .ensures)) in
     file-front (a .book) (a .caps .now) (a .has-sheet) (a .sheet .now) (now (a .out)) (s .pre .1)
-    (begun-next l (f .put-first .ensures))
+    (begun-next l (f .put-options .ensures))
 
 pub put-file-spec : {M : Type 1} → statement M
 put-file-spec =
     tie.close
     (tie.spec (λ c κs. search needs) (λ c κs. search needs) put-contents-requires put-lists-requires put-rows-requires put-rows-requires-2
-    put-first-requires (λ c. search needs) returns)
+    put-options-requires (λ c. search needs) returns)

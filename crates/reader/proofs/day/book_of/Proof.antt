@@ -1,36 +1,47 @@
+use mathlib.Core.List.{[]}
 use mathlib.Core.Option.{Option, some}
 use mathlib.Core.Path.{_∙_, ap, ap₂}
 use Prim.Native.Nat.{ℕ}
 use denote.Ref.{now}
 use borrow.Author.Needs.{needs}
 use Rattle.model.specs.Lowest.{andThen, getOr, isSome}
-use Rattle.dayfile.specs.Layout.{field, start, entryOf, fieldsAt, firstIn, bookOf}
+use Rattle.dayfile.specs.Layout.{field, start, entryOf, fieldsAt, firstIn, balancesIn, bookOf}
 use Rattle.dayfile.specs.Memory.{sized}
 use Rattle.dayfile.proofs.Answers.{there-as}
 use Rattle.reader.proofs.day.book_of.Statement.{statement}
 use Rattle.reader.proofs.day.book_of.Tie as tie
 
 returns : tie.Need-returns
-unfolding bookOf firstIn
+unfolding bookOf firstIn balancesIn
 returns c =
-    let t = c .before in
+    let u = c .before in
+    let j = u .before .entry-of2 .ensures .0 in
+    let s = u .before .before in
+    let t = s .before in
     let k = t .before .entry-of .ensures .0 in
     let d = t .before .before in
     let b = d .before .before in
     let a = b .before .before in
+    let n = a .before .seats .ensures .0 in
     let f = now (a .before .before .before .args .file) in (
-      a .before .seats .ensures .0,
+      n,
       (
         a .windows .ensures .0,
         (
-          b .array32 .ensures
-              ∙ ap₂ (λ (x n : ℕ). sized 32 (fieldsAt f x n)) (b .before .start .ensures .0) (a .before .seats .ensures .0),
+          b .array32 .ensures ∙ ap₂ (λ (x i : ℕ). sized 32 (fieldsAt f x i)) (b .before .start .ensures .0) n,
           (
             d .array24 .ensures
-                ∙ ap₂ (λ (x n : ℕ). sized 24 (fieldsAt f x n)) (d .before .start2 .ensures .0) (a .windows .ensures .0),
+                ∙ ap₂ (λ (x i : ℕ). sized 24 (fieldsAt f x i)) (d .before .start2 .ensures .0) (a .windows .ensures .0),
             (
               t .is-there .ensures ∙ ap isSome k ∙ there-as (λ e. field f (start f e)) (entryOf f 5),
-              c .field-of .ensures ∙ ap (λ (o : Option ℕ). getOr (andThen o (λ e. some (field f (start f e)))) 0) k,
+              (
+                s .field-of .ensures ∙ ap (λ (o : Option ℕ). getOr (andThen o (λ e. some (field f (start f e)))) 0) k,
+                (
+                  u .is-there2 .ensures ∙ ap isSome j ∙ there-as (λ e. fieldsAt f (start f e) _) (entryOf f 6),
+                  c .list-of .ensures
+                      ∙ ap₂ (λ (o : Option ℕ) (i : ℕ). sized 32 (getOr (andThen o (λ e. some (fieldsAt f (start f e) i))) [])) j n,
+                ),
+              ),
             ),
           ),
         ),
@@ -40,4 +51,5 @@ returns c =
 pub book-of-spec : {M : Type 1} → statement M
 book-of-spec =
     tie.close (tie.spec (λ c κs. search needs) (λ c κs. search needs) (λ c κs. search needs) (λ c κs. search needs) (λ c κs. search needs)
-    (λ c κs. search needs) (λ c κs. search needs) (λ c κs. search needs) (λ c κs. search needs) returns)
+    (λ c κs. search needs) (λ c κs. search needs) (λ c κs. search needs) (λ c κs. search needs) (λ c κs. search needs)
+    (λ c κs. search needs) (λ c κs. search needs) returns)

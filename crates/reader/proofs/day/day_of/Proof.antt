@@ -28,7 +28,9 @@ returns c =
       supplies-are = b .book-of .ensures .1 .1 .1 .0;
       caps-are = g .grid-of .ensures;
       has-first-is = b .book-of .ensures .1 .1 .1 .1 .0;
-      first-is = b .book-of .ensures .1 .1 .1 .1 .1;
+      first-is = b .book-of .ensures .1 .1 .1 .1 .1 .0;
+      has-balances-is = b .book-of .ensures .1 .1 .1 .1 .1 .1 .0;
+      balances-are = b .book-of .ensures .1 .1 .1 .1 .1 .1 .1;
       has-sheet-is = t .is-there .ensures ∙ ap isSome k ∙ there-as (gridIn f) (entryOf f 4);
       sheet-is = c .sheet-of .ensures ∙ ap (λ (o : Option ℕ). held (getOr (andThen o (λ e. some (gridIn f e))) [])) k;
     }

@@ -16,6 +16,8 @@ returns c =
       caps-are = c .before .no-grid .ensures;
       has-first-is = refl;
       first-is = refl;
+      has-balances-is = refl;
+      balances-are = refl;
       has-sheet-is = refl;
       sheet-is = c .no-grid2 .ensures;
     }

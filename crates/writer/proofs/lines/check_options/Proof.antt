@@ -8,31 +8,48 @@ use Rattle.dayfile.specs.Table.{optionLines}
 use Rattle.dayfile.specs.Memory.{sized}
 use Rattle.dayfile.proofs.Lines.{three-as}
 use Rattle.writer.specs.Values.{outsideIn}
-use Rattle.writer.proofs.Checks.{first-told}
+use Rattle.writer.proofs.Checks.{first-told, balances-told}
 use Rattle.writer.proofs.lines.check_options.Statement.{statement}
 use Rattle.writer.proofs.lines.check_options.Tie as tie
 
 outside-in-requires : tie.Need-outside-in-requires
 outside-in-requires c κs =
-    let p = c .before .before in
-    (omega (arith, p .before .pre, p .ahead-of-first .ensures), omega (arith, c .size-if .ensures))
+    let p = c .before in
+    let n = p .before .before in
+    (omega (arith, n .before .before .pre, p .ahead-of-first .ensures), omega (arith, n .size-if .ensures))
+
+outside-in-requires-2 : tie.Need-outside-in-requires-2
+outside-in-requires-2 c κs =
+    let p = c .before .before .before in
+    let k = p .before in
+    let n = k .before in
+    let s = n .before .before in
+    (omega (arith, s .pre, p .ahead-of-first .ensures, n .size-if .ensures), omega (arith, s .pre, k .size-if2 .ensures))
 
 returns : tie.Need-returns
 unfolding optionLines
 returns c = λ caps sheet e.
-    let o = c .before in
-    let s = o .before in
-    let p = s .before .before in
-    let a = p .before .args in
+    let w = c .before in
+    let v = w .before .before in
+    let p = v .before .before in
+    let k = p .before in
+    let n = k .before in
+    let a = n .before .before .args in
     let b = a .book in
-    let k = p .ahead-of-first in
-    let seat = o .outside-in .ensures
-    ∙ ap (λ (n : ℕ). outsideIn (sized n (b .first ∷ [])) (a .at + 2 * k .result) 1 (b .seats)) (s .size-if .ensures .0)
-    ∙ first-told b caps (a .has-sheet) sheet e (k .ensures .0) in
-    three-as 18 {b = none} {c = none} (c .first-of .ensures) seat refl refl
+    let at = a .at + 2 * p .ahead-of-first .result in
+    let told = p .ahead-of-first .ensures .0 in
+    let one = n .size-if in
+    let first = v .outside-in .ensures
+    ∙ ap (λ (i : ℕ). outsideIn (sized i (b .first ∷ [])) at 1 (b .seats)) (one .ensures .0)
+    ∙ first-told b caps (a .has-sheet) sheet e told in
+    let balances = w .outside-in2 .ensures
+    ∙ ap (λ (i : ℕ). outsideIn (sized i (b .balances)) (at + 2 * one .result) 0 50000) (k .size-if2 .ensures .0)
+    ∙ balances-told b caps (a .has-sheet) sheet e told (one .ensures .0) in
+    three-as 18 {c = none} (c .first-of .ensures) first balances refl
 
 pub check-options-spec : {M : Type 1} → statement M
 check-options-spec =
     tie.close
-    (tie.spec (λ c κs. search needs) (λ c. search needs) (λ c. search needs) (λ c. search needs) (λ c κs. search needs)
-    outside-in-requires (λ c κs. search needs) returns)
+    (tie.spec (λ c κs. search needs) (λ c κs. search needs) (λ c κs. search needs) (λ c. search needs) (λ c. search needs)
+    (λ c. search needs) outside-in-requires (λ c. search needs) (λ c. search needs) (λ c. search needs) outside-in-requires-2
+    (λ c κs. search needs) returns)
