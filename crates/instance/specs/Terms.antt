@@ -1,9 +1,12 @@
 -- The one relation between an instance of the crate `fairness` and memory, that of a sheet, and how large the numbers may be.
 use mathlib.Core.Path.{_≡_}
+use mathlib.Core.Bool.{cond}
+use mathlib.Core.List.{List}
 use Prim.Native.Nat.{ℕ, _≤_, _<_}
-use lib.ListN.{getD}
+use lib.ListN.{getD, replicate}
 use Rattle.fairness.specs.Instance.{Instance}
 use Rattle.model.specs.Book.{Grid, cell}
+use Rattle.dayfile.specs.declared.Book as Memory
 use Rattle.instance.specs.declared.Terms.{Terms}
 
 -- the instance that the numbers and the caps in memory are
@@ -18,6 +21,10 @@ instanceIn t caps =
       base = λ i. getD (t .bases) i 0;
       position = λ i. getD (t .positions) i 0;
     }
+
+-- the balances in force: those of the book in memory, or zeros where there are none
+abbrev pub inForce : Memory.Book → List ℕ
+inForce m = cond (m .«has_balances») (m .balances) (replicate 32 0)
 
 -- the used numbers in memory are those of an instance; only used entries count
 pub record Told (I : Instance) (t : Terms) (caps : Grid) : Type 0 where

@@ -5,7 +5,7 @@ ghost use Rattle.model.specs.Lowest.{when, getOr};
 ghost use Rattle.model.specs.Book.{Grid, placeFrom, instanceOf};
 ghost use Rattle.dayfile.specs.Bounds.{Fit};
 ghost use Rattle.dayfile.specs.Memory.{bookIn};
-ghost use Rattle.instance.specs.Terms.{Told, Ranged};
+ghost use Rattle.instance.specs.Terms.{inForce, Told, Ranged};
 use dayfile::Book;
 
 // An instance by value, without its caps, which stand beside it as an array of arrays. The first seats and windows are used.
@@ -45,7 +45,23 @@ fn place(first: usize, n: usize, seat: usize) -> u32
     }
 }
 
-// Weights go by class, heights start from 0, and the seat rule goes by the order from the first seat on.
+// The balances in force: zeros where there are none.
+pub fn balances(book: Book) -> [u16; 32]
+    ensures { λ r. ⌜ r ≡ inForce book ⌝ }
+{
+    if book.has_balances {
+        return book.balances;
+    }
+    [0u16; 32]
+}
+
+fn wide(x: u16) -> u32
+    ensures { λ r. ⌜ r ≡ x ⌝ }
+{
+    x as u32
+}
+
+// Weights go by class, heights start from the balances, and the seat rule goes by the order from the first seat on.
 pub fn terms_of(book: Book) -> Terms
     requires { ⌜ ((caps : Grid) × Fit (bookIn book caps)) ⌝ }
     ensures { λ r. ⌜ Ranged r ⌝ }
@@ -54,11 +70,14 @@ pub fn terms_of(book: Book) -> Terms
     let seats = book.seats;
     let classes = book.classes;
     let supplies = book.supplies;
+    let balances = balances(book);
     let first = first_seat(book);
     let mut weights = [0u32; 32];
+    let mut bases = [0u32; 32];
     let mut positions = [0u32; 32];
     for i in 0..seats {
         weights[i] = fairness::weight(classes[i]);
+        bases[i] = wide(balances[i]);
         positions[i] = place(first, seats, i);
     }
     Terms {
@@ -66,7 +85,7 @@ pub fn terms_of(book: Book) -> Terms
         windows: book.windows,
         supplies,
         weights,
-        bases: [0u32; 32],
+        bases,
         positions,
     }
 }
