@@ -31,10 +31,11 @@ fn raising(counts: &Counts) -> usize {
     counts.work.searches + counts.work.pushes + SLOW * counts.work.left
 }
 
-/// How many books the search has met, and on how many of them the slow parts had something to do.
+/// How many books the search has met, how many of them have balances, and on how many the slow parts had something to do.
 #[derive(Default)]
 struct Met {
     books: usize,
+    with_balances: usize,
     settling: usize,
     raising: usize,
 }
@@ -61,7 +62,8 @@ pub fn search(seconds: u64) {
             std::fs::write("target/worst.day", file_of(&book, None)).expect("target/worst.day");
         }
     }
-    println!("settling had something to do on {} of {} books", met.settling, met.books);
+    println!("{} books, {} of them with balances", met.books, met.with_balances);
+    println!("settling had something to do on {} of them", met.settling);
     println!("the fast pass to the standard sheet left something on {}", met.raising);
     println!("longest plan found: {longest:.0} µs, target/worst.day");
 }
@@ -123,6 +125,7 @@ impl Met {
     fn cost(&mut self, book: &Book, cost: Cost) -> usize {
         let counts = counts(book);
         self.books += 1;
+        self.with_balances += book.balances.is_some() as usize;
         self.settling += (counts.turns[2] > 0) as usize;
         self.raising += (counts.work.left > 0) as usize;
         cost(&counts)
@@ -146,21 +149,21 @@ fn climb(rng: &mut Rng, met: &mut Met, cost: Cost, mut book: Book, end: Instant)
     (book, changes)
 }
 
-/// Another class, supply, cap, first seat or balance, or two seats' caps in a window the other way round.
+/// Another class, supply, cap, first seat or, where there are balances, balance; or two seats' caps in a window the other way round.
 fn change(rng: &mut Rng, book: &mut Book) {
     let (seat, other, window) = (rng.below(book.seats), rng.below(book.seats), rng.below(book.windows));
     let cap = book.caps[seat][window];
-    match rng.below(11) {
+    if let Some(balances) = book.balances.as_mut().filter(|_| rng.once_in(5)) {
+        balances[seat] = credits_near(rng, balances[seat], MOST_BALANCE);
+        return;
+    }
+    match rng.below(9) {
         0 => book.classes[seat] = rng.between(1, 8) as u16,
         1 => book.supplies[window] = credits_near(rng, book.supplies[window], MOST_CREDITS),
         2 => book.caps[seat].swap(window, rng.below(book.windows)),
         3 => (book.caps[seat][window], book.caps[other][window]) = (book.caps[other][window], cap),
         4 => book.caps[seat][window] = 0,
         5 => book.first = Some(seat as u16 + 1),
-        6 | 7 => {
-            let balances = book.balances.get_or_insert([0; SEATS]);
-            balances[seat] = credits_near(rng, balances[seat], MOST_BALANCE);
-        }
         _ => book.caps[seat][window] = credits_near(rng, cap, MOST_CREDITS),
     }
 }
