@@ -29,7 +29,8 @@ pub fn draw(rng: &mut Rng) -> raw::Book {
     (book.seats..SEATS).for_each(|seat| raw_book.classes[seat] = rng.below(65536) as u16);
     (book.windows..WINDOWS).for_each(|window| raw_book.supplies[window] = rng.below(65536) as u16);
     if rng.once_in(3) {
-        spoil(rng, &mut raw_book);
+        // More than one at times, so that two lines meet.
+        (0..rng.between(1, 3)).for_each(|_| spoil(rng, &mut raw_book));
     }
     raw_book
 }
