@@ -129,8 +129,9 @@ fn resize(state: &mut u32, file: &mut [u8], length: usize) -> usize {
 // The last field gets a number about that of the largest balance.
 fn enlarge(state: &mut u32, file: &mut [u8], length: usize) {
     let x = 49998 + up_to(state, 4);
-    set(file, std::num::wrapping_sub_usize(length, 2), (x % 256) as u8);
-    set(file, std::num::wrapping_sub_usize(length, 1), (x / 256) as u8);
+    let last = std::num::wrapping_sub_usize(length, 2);
+    set(file, last, (x % 256) as u8);
+    set(file, std::num::wrapping_add_usize(last, 1), (x / 256) as u8);
 }
 
 // A file that is left as it is, cut, longer by a byte, or has a byte changed: anywhere, in the contents, in the bodies, or in the last

@@ -120,7 +120,8 @@ pub fn all_from(bytes: &[u8], at: usize, value: u8) -> bool {
 pub const ROWS: usize = 20;
 
 // The counts of a report: three for each of these numbers, and behind them how much was wrong.
-pub const COUNTS: usize = 3 * ROWS + 1;
+pub const WRONG: usize = 3 * ROWS;
+pub const COUNTS: usize = WRONG + 1;
 
 fn say_count(name: &[u8], n: u32) {
     say_text(name);
@@ -151,6 +152,6 @@ pub fn say_report(title: &[u8], counts: &[u32; COUNTS]) {
     for row in 0..ROWS {
         say_row(counts, row);
     }
-    say_count(b"  wrong: ", counts[COUNTS - 1]);
+    say_count(b"  wrong: ", counts[WRONG]);
     say_text(b"\n");
 }

@@ -2,6 +2,7 @@
 ghost use Prim.Native.Nat.{_<_};
 use say::COUNTS;
 use say::ROWS;
+use say::WRONG;
 
 pub type Tally = [u32; COUNTS];
 
@@ -14,8 +15,7 @@ pub fn count(mut tally: Tally, column: usize, number: usize, right: bool) -> Tal
         tally[place] = std::num::wrapping_add_u32(tally[place], 1);
     }
     if !right {
-        let last = COUNTS - 1;
-        tally[last] = std::num::wrapping_add_u32(tally[last], 1);
+        tally[WRONG] = std::num::wrapping_add_u32(tally[WRONG], 1);
     }
     tally
 }
