@@ -36,9 +36,12 @@ bookFrom d =
       sheet = d .sheet;
       «has_first» = flag (d .book .«has_first»);
       first = d .book .first;
+      «has_balances» = flag (d .book .«has_balances»);
+      balances = d .book .balances;
     }
 
--- a book that was handed in; its sheet counts unless has_sheet is 0, and its first seat unless has_first is 0
+-- a book that was handed in; its sheet counts unless has_sheet is 0, its first seat unless has_first is 0, and its balances unless
+-- has_balances is 0
 abbrev pub dayFrom : CreditsBook → Day
 dayFrom c =
     record {
@@ -49,6 +52,8 @@ dayFrom c =
         supplies = c .supplies;
         «has_first» = not (eqb (c .«has_first») 0);
         first = c .first;
+        «has_balances» = not (eqb (c .«has_balances») 0);
+        balances = c .balances;
       };
       caps = c .caps;
       «has_sheet» = not (eqb (c .«has_sheet») 0);

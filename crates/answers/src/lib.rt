@@ -30,8 +30,8 @@ pub struct Numbers {
     pub moves: usize,
 }
 
-// A book with its caps, a sheet unless has_sheet is 0, and a first seat unless has_first is 0. Later fields go to its end, so that offsets
-// stay.
+// A book with its caps, a sheet unless has_sheet is 0, a first seat unless has_first is 0, and balances unless has_balances is 0. Later
+// fields go to its end, so that offsets stay.
 #[repr(C)]
 pub struct CreditsBook {
     pub seats: usize,
@@ -43,6 +43,8 @@ pub struct CreditsBook {
     pub sheet: Sheet,
     pub has_first: u32,
     pub first: u16,
+    pub has_balances: u32,
+    pub balances: [u16; 32],
 }
 
 // A refusal, or a book.
@@ -189,6 +191,8 @@ impl CreditsBook {
         let sheet = day.sheet;
         let has_sheet = flag(day.has_sheet);
         let has_first = flag(book.has_first);
+        let has_balances = flag(book.has_balances);
+        let balances = book.balances;
         CreditsBook {
             seats: book.seats,
             windows: book.windows,
@@ -199,6 +203,8 @@ impl CreditsBook {
             sheet,
             has_first,
             first: book.first,
+            has_balances,
+            balances,
         }
     }
 
@@ -208,6 +214,7 @@ impl CreditsBook {
     {
         let classes = self.classes;
         let supplies = self.supplies;
+        let balances = self.balances;
         let caps = self.caps;
         let sheet = self.sheet;
         let book = Book {
@@ -217,6 +224,8 @@ impl CreditsBook {
             supplies,
             has_first: self.has_first != 0,
             first: self.first,
+            has_balances: self.has_balances != 0,
+            balances,
         };
         Day {
             book,

@@ -90,7 +90,7 @@ module _ (b c : Book) (h : SameParts b c) where
   pub parts-windows : windows b ≡ windows c
   parts-windows = ap length (h .supplies)
 
-  same-balance : (i : ℕ) → i < seats b → balanceOf b i ≡ balanceOf c i
+  pub same-balance : (i : ℕ) → i < seats b → balanceOf b i ≡ balanceOf c i
   unfolding balancesOf
   same-balance i l =
       sym (table-at (seats b) (balanceOf b) i 0 l) ∙ ap (λ (xs : List ℕ). getD xs i 0) (h .balances)

@@ -22,6 +22,7 @@ book =
       supplies = 1 ∷ 3 ∷ [];
       caps = (1 ∷ 0 ∷ []) ∷ (1 ∷ 2 ∷ []) ∷ (0 ∷ 3 ∷ []) ∷ [];
       first = none;
+      balances = none;
     }
 
 abbrev sheet : Grid

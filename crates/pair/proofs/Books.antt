@@ -6,8 +6,9 @@ use mathlib.Core.List.{List, []}
 use Prim.Native.Nat.{ℕ}
 use native.Mathlib.Omega.{arith}
 use lib.ListN.{length, getD}
+use Rattle.fairness.specs.Leximin.{table}
 use Rattle.lists.proofs.Tables.{table-same}
-use Rattle.model.specs.Book.{Book, Grid, cell}
+use Rattle.model.specs.Book.{Book, Grid, cell, seats, balanceOf, balancesOf}
 use Rattle.model.proofs.Tests.{not-true}
 use Rattle.sheet.specs.declared.Sheet.{Sheet}
 use Rattle.sheet.specs.Sheets.{credit, gridOf}
@@ -16,9 +17,11 @@ use Rattle.dayfile.specs.Table.{sameBook}
 use Rattle.dayfile.specs.Memory.{sized, sizedGrid, bookIn}
 use Rattle.dayfile.specs.declared.Book as Memory
 use Rattle.pair.specs.Same.{SameUpTo, SameCells, SameLists}
-use Rattle.dayfile.proofs.Pairs.{SameParts, same-parts, parts-same}
+use Rattle.dayfile.proofs.Pairs.{SameParts, same-parts, parts-same, same-balance}
 use Rattle.dayfile.proofs.Held.{seats-in, windows-in}
 use Rattle.dayfile.proofs.Used.{class-in, supply-in, cap-in}
+use Rattle.instance.specs.Terms.{inForce}
+use Rattle.instance.proofs.Books.{balance-in}
 
 -- the same numbers in both
 abbrev SameNumbers : Memory.Book → Grid → Memory.Book → Grid → Type 0
@@ -36,12 +39,23 @@ module _ (a : Memory.Book) (caps : Grid) (b : Memory.Book) (caps′ : Grid) wher
       (λ i l. sized-same (a .windows) (b .windows) (getD caps i []) (getD caps′ i []) (h .0 .windows) (h .1 i l))
       ∙ ap (λ (k : ℕ). sizedGrid k (b .windows) caps′) (h .0 .seats)
 
+  balances-same : SameLists a b → balancesOf (bookIn a caps) ≡ balancesOf (bookIn b caps′)
+  unfolding balancesOf
+  balances-same h =
+      let n = seats-in a caps in
+      let m = seats-in b caps′ in
+      let e = h .seats in
+      table-same (seats (bookIn a caps)) (balanceOf (bookIn a caps)) (balanceOf (bookIn b caps′))
+      (λ i l. balance-in a caps i (omega arith) ∙ h .balances i (omega arith) ∙ sym (balance-in b caps′ i (omega arith)))
+      ∙ ap (λ (k : ℕ). table k (balanceOf (bookIn b caps′))) (n ∙ e ∙ sym m)
+
   same-in : SameNumbers a caps b caps′ → SameParts (bookIn a caps) (bookIn b caps′)
   unfolding bookIn
   same-in h = record {
     classes = sized-same (a .seats) (b .seats) (a .classes) (b .classes) (h .0 .seats) (h .0 .classes);
     supplies = sized-same (a .windows) (b .windows) (a .supplies) (b .supplies) (h .0 .windows) (h .0 .supplies);
     caps = grid-same h;
+    balances = balances-same (h .0);
   }
 
   same-numbers : SameParts (bookIn a caps) (bookIn b caps′) → SameNumbers a caps b caps′
@@ -52,6 +66,9 @@ module _ (a : Memory.Book) (caps : Grid) (b : Memory.Book) (caps′ : Grid) wher
       classes = λ i l. sym (class-in a caps i l) ∙ ap (λ (xs : List ℕ). getD xs i 0) (h .classes) ∙ class-in b caps′ i (omega (arith, n));
       supplies = λ j l.
           sym (supply-in a caps j l) ∙ ap (λ (xs : List ℕ). getD xs j 0) (h .supplies) ∙ supply-in b caps′ j (omega (arith, m));
+      balances = λ i l.
+          sym (balance-in a caps i l) ∙ same-balance (bookIn a caps) (bookIn b caps′) h i (omega (arith, seats-in a caps))
+          ∙ balance-in b caps′ i (omega (arith, n));
     },
     λ i li j lj.
         sym (cap-in a caps i j li lj) ∙ ap (λ (g : Grid). cell g i j) (h .caps) ∙ cap-in b caps′ i j (omega (arith, n)) (omega (arith, m)),

@@ -13,6 +13,7 @@ ghost use Rattle.dayfile.specs.Table.{sameBook};
 ghost use Rattle.dayfile.specs.Memory.{bookIn, cellsIn};
 ghost use Rattle.pair.specs.Same.{SameUpTo, SameCells, SameLists};
 use dayfile::Book;
+use instance::balances;
 use instance::terms_of;
 use leximin::is_higher;
 use profile::profile;
@@ -56,7 +57,7 @@ fn same_cells(a: Sheet, b: Sheet, seats: usize, windows: usize) -> bool
     true
 }
 
-// Whether two books have the same classes and supplies.
+// Whether two books have the same classes, supplies and balances.
 fn same_lists(a: Book, b: Book) -> bool
     requires { ⌜ (a .seats ≤ 32) × (a .windows ≤ 24) ⌝ }
     ensures { λ r. ⌜ ((r ≡ true) ↔ SameLists a b) ⌝ }
@@ -76,10 +77,15 @@ fn same_lists(a: Book, b: Book) -> bool
     }
     let a_supplies = a.supplies;
     let b_supplies = b.supplies;
-    same_row(a_supplies, b_supplies, windows)
+    if !same_row(a_supplies, b_supplies, windows) {
+        return false;
+    }
+    let a_balances = balances(a);
+    let b_balances = balances(b);
+    same(&a_balances, &b_balances, seats)
 }
 
-// Whether two books have the same numbers: classes, supplies, caps.
+// Whether two books have the same numbers in force: classes, supplies, caps, balances.
 pub fn same_book(a: Book, a_caps: Sheet, b: Book, b_caps: Sheet) -> bool
     requires { ⌜ (a .seats ≤ 32) × (a .windows ≤ 24) ⌝ }
     ensures { λ r. ⌜ r ≡ sameBook (bookIn a (gridOf «a_caps»)) (bookIn b (gridOf «b_caps»)) ⌝ }

@@ -1,10 +1,13 @@
--- `pair::same_lists` meets its contract: counts, classes and supplies, one after the other.
+-- `pair::same_lists` meets its contract: counts, classes, supplies and balances, one after the other.
 use borrow.Author.Needs.{needs}
-use mathlib.Core.Path.{_≡_, sym, _∙_}
+use mathlib.Core.List.{List}
+use mathlib.Core.Path.{_≡_, sym, subst₂, _∙_}
 use mathlib.Core.Bool.{true≢false}
+use Prim.Native.Nat.{ℕ}
 use native.Mathlib.Omega.{arith}
 use lib.ListN.{length}
 use borrow.Author.Tests.{not-true, not-false}
+use Rattle.pair.specs.Same.{SameUpTo}
 use Rattle.pair.proofs.same_lists.Statement.{statement}
 use Rattle.pair.proofs.same_lists.Tie as tie
 
@@ -28,17 +31,41 @@ returns-3 c = (
 )
 
 returns-4 : tie.Need-returns-4
-returns-4 c =
-    let third = c .before .before .before in (
+returns-4 c = (
+  λ e. absurd (true≢false (sym e)),
+  λ h. absurd (true≢false (sym (c .before .same-row .ensures .1 (h .supplies)) ∙ not-true _ (c .if4 .taken))),
+)
+
+same-requires-2 : tie.Need-same-requires-2
+same-requires-2 c κs =
+    let two = c .before .before in
+    let one = two .before in
+    let third = one .before .before .before .before .before in
+    let start = third .before .before .before .before .before .before .before .before .before .before in
+    let a : length (one .balances .result) ≡ 32 = search needs in
+    let b : length (two .balances2 .result) ≡ 32 = search needs in
+    (omega (arith, start .pre .0), omega (arith, start .pre .0))
+
+returns-5 : tie.Need-returns-5
+returns-5 c =
+    let two = c .before .before .before in
+    let one = two .before in
+    let fourth = one .before in
+    let third = fourth .before .before .before .before in
+    let seats : ℕ = third .before .before .before .before .before .before .before .before .before .before .args .a .seats in
+    let a = one .balances .ensures in
+    let b = two .balances2 .ensures in (
       λ e. record {
         seats = third .before .before .before .before .before .before .before .before .if1 .left;
         windows = third .before .before .before .before .before .before .if2 .left;
         classes = third .before .same .ensures .0 (not-false _ (third .if3 .left));
-        supplies = c .same-row .ensures .0 e;
+        supplies = fourth .before .same-row .ensures .0 (not-false _ (fourth .if4 .left));
+        balances = subst₂ (λ (xs ys : List ℕ). SameUpTo seats xs ys) a b (c .same2 .ensures .0 e);
       },
-      λ h. c .same-row .ensures .1 (h .supplies),
+      λ h. c .same2 .ensures .1 (subst₂ (λ (xs ys : List ℕ). SameUpTo seats xs ys) (sym a) (sym b) (h .balances)),
     )
 
 pub same-lists-spec : {M : Type 1} → statement M
 same-lists-spec =
-    tie.close (tie.spec returns returns-2 (λ c. search needs) (λ c. search needs) same-requires returns-3 (λ c κs. search needs) returns-4)
+    tie.close (tie.spec returns returns-2 (λ c. search needs) (λ c. search needs) same-requires returns-3 (λ c κs. search needs) returns-4
+    (λ c κs. search needs) (λ c κs. search needs) (λ c. search needs) (λ c. search needs) same-requires-2 returns-5)

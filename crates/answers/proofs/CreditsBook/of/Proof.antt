@@ -1,15 +1,16 @@
 -- `answers::CreditsBook::of` meets its contract: each part in its place.
-use mathlib.Core.Path.{ap₂}
+use mathlib.Core.Path.{_∙_, ap, ap₂}
 use Prim.Native.Nat.{ℕ}
 use borrow.Author.Needs.{needs}
 use Rattle.dayfile.specs.declared.Day.{Day}
+use Rattle.answers.specs.Numbers.{flag}
 use Rattle.answers.specs.declared.CreditsBook.{CreditsBook}
 use Rattle.answers.proofs.CreditsBook.of.Statement.{statement}
 use Rattle.answers.proofs.CreditsBook.of.Tie as tie
 
--- with what its two flags turned out to be
-abbrev told : Day → ℕ → ℕ → CreditsBook
-told d sheet first =
+-- with what its three flags turned out to be
+abbrev told : Day → ℕ → ℕ → ℕ → CreditsBook
+told d sheet first carried =
     record {
       seats = d .book .seats;
       windows = d .book .windows;
@@ -20,11 +21,18 @@ told d sheet first =
       sheet = d .sheet;
       «has_first» = first;
       first = d .book .first;
+      «has_balances» = carried;
+      balances = d .book .balances;
     }
 
 returns : tie.Need-returns
 returns c =
-    ap₂ (told (c .before .before .before .before .before .before .before .args .day)) (c .before .flag .ensures) (c .flag2 .ensures)
+    let b = c .before in
+    let f = b .before in
+    let s = f .before in
+    let d = s .before .before .before .before .before .before .args .day in
+    ap₂ (λ (x y : ℕ). told d x y (b .flag3 .result)) (s .flag .ensures) (f .flag2 .ensures)
+    ∙ ap (told d (flag (d .«has_sheet»)) (flag (d .book .«has_first»))) (b .flag3 .ensures)
 
 pub of-spec : {M : Type 1} → statement M
-of-spec = tie.close (tie.spec (λ c κs. search needs) (λ c κs. search needs) returns)
+of-spec = tie.close (tie.spec (λ c κs. search needs) (λ c κs. search needs) (λ c κs. search needs) returns)
