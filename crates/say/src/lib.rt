@@ -119,8 +119,10 @@ pub fn all_from(bytes: &[u8], at: usize, value: u8) -> bool {
 // The numbers from 0 on that a report has a line for.
 pub const ROWS: usize = 20;
 
-// The counts of a report: three for each of these numbers, and behind them how much was wrong.
+// How much was wrong stands behind three counts for each of these numbers.
 pub const WRONG: usize = 3 * ROWS;
+
+// The counts of a report.
 pub const COUNTS: usize = WRONG + 1;
 
 fn say_count(name: &[u8], n: u32) {
