@@ -35,8 +35,8 @@ fn same_bodies(first: &[u8], second: &[u8]) -> bool {
         & check::same(book_in(first), book_in(second))
 }
 
-// The body of kind 6, no byte where there is none. Its entry is the last one, and that ends with the length, a field in the two bytes from 6
-// times the number of entries on.
+// The body of kind 6, no byte where there is none. Its entry is the last one, so the contents end with its length; what is 6 times the
+// number of entries is the offset of that field.
 fn balances_in(file: &[u8]) -> &[u8] {
     let last = 6 * byte(file, 0) as usize;
     let kind = byte(file, std::num::wrapping_sub_usize(last, 4));

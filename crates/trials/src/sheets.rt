@@ -110,8 +110,7 @@ fn rightly_planned(s: Small, cells: [u16; 12]) -> bool {
 }
 
 // A random small book, planned, and each of its feasible sheets marked. Books with several settled sheets are counted apart, since only
-// they have a settled sheet that is not the standard one; and so are those with balances, and those of them that have another standard sheet
-// without.
+// they have a settled sheet that is not the standard one. So are those with balances, and those that would be planned otherwise without.
 pub fn judge(state: &mut u32, tally: Tally) -> Tally {
     let s = draw_small(state);
     let best = best_of(s);

@@ -27,8 +27,8 @@ pub fn second_in(numbers: &[u8]) -> &[u8] {
     numbers::bytes(numbers, place + 1, length)
 }
 
-// A book in memory: whether it has a sheet, seats, windows, classes, supplies, caps, sheet, whether a first seat is named, that seat, whether
-// there are balances, and these.
+// A book in memory: whether it has a sheet, seats, windows, classes, supplies, caps, sheet, whether a first seat is named, that seat,
+// whether there are balances, and these.
 pub fn day_in(numbers: &[u8]) -> Day {
     let seats = numbers::wide(numbers, 2);
     let windows = numbers::wide(numbers, 3);
