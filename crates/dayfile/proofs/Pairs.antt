@@ -79,6 +79,9 @@ parts-same b c h =
 
 -- ---- what is said of a sheet by these parts alone
 
+pub parts-itself : (b : Book) → SameParts b b
+parts-itself b = record { classes = refl; supplies = refl; caps = refl; balances = refl }
+
 pub parts-back : (b c : Book) → SameParts b c → SameParts c b
 parts-back b c h =
     record { classes = sym (h .classes); supplies = sym (h .supplies); caps = sym (h .caps); balances = sym (h .balances) }

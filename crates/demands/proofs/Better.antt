@@ -17,7 +17,7 @@ use Rattle.dayfile.specs.Outcome.{turnedAway, answer, readFile, NoneHolds, Firs
 use Rattle.dayfile.proofs.Lines.{none-holds, none-first-of, none-parts}
 use Rattle.dayfile.proofs.Sound.{Sound, sound}
 use Rattle.dayfile.proofs.Bodies.{sheet-inside, sheet-grid}
-use Rattle.dayfile.proofs.Pairs.{SameParts, one-book, parts-profile, parts-sheet, parts-lawful, parts-highest, parts-back}
+use Rattle.dayfile.proofs.Pairs.{SameParts, one-book, parts-profile, parts-sheet, parts-lawful, parts-highest, parts-itself, parts-back}
 use Rattle.answers.specs.declared.Marking.{Marking}
 use Rattle.answers.specs.Answers.{told}
 use Rattle.lawful.proofs.Accepted.{has-entry, has-sheet-of, accepted-sheet, accepted-lawful}
@@ -180,7 +180,7 @@ module _ (f g : List ℕ) where
       go : (side either : Side) → ChosenOf f g side →
           SameParts (bookOf (fileOn either f g)) (bookOf (fileOn side f g))
           × (Higher NoHigher (listOf (fileOn side f g)) (listOf (fileOn either f g)) → ⊥)
-      go first first c = (record { classes = refl; supplies = refl; caps = refl }, not-above f)
+      go first first c = (parts-itself (bookOf f), not-above f)
       go first second c = (on-one-book f g first c second, not-lower first c)
       go second first c = (on-one-book f g second c first, not-lower second c)
-      go second second c = (record { classes = refl; supplies = refl; caps = refl }, not-above g)
+      go second second c = (parts-itself (bookOf g), not-above g)

@@ -1,19 +1,22 @@
 -- The rules of paper 01 and demand 3: a mark passes exactly where the sheet's list is the book's highest. Stated with the definitions
 -- of specs/ alone; the other files of this folder work towards them.
-use mathlib.Core.Path.{_≡_, refl, sym, _∙_}
+use mathlib.Core.Path.{_≡_, refl, sym, _∙_, ap, fun-ext}
 use mathlib.Core.Bool.{true, true≢false}
 use mathlib.Core.Logic.{_⊎_, _↔_}
 use mathlib.Core.List.{List}
-use mathlib.Core.Option.{Option}
-use Prim.Native.Nat.{ℕ, _<_}
-use lib.ListN.{getD}
-use Rattle.fairness.specs.Instance.{Proper, Feasible}
-use Rattle.fairness.specs.Leximin.{Level, NoHigher, Equal, Higher, levels, profile, Highest}
-use Rattle.fairness.specs.Exchange.{Move, playAll, PlaysOut, Settled}
+use mathlib.Core.Option.{Option, none, some}
+use Prim.Native.Nat.{ℕ, _+_, _<_}
+use lib.ListN.{getD, replicate}
+use Rattle.lists.proofs.Arrays.{zeros-at}
+use Rattle.fairness.specs.Classes.{weightOf}
+use Rattle.fairness.specs.Instance.{Proper, Feasible, total}
+use Rattle.fairness.specs.Leximin.{Level, NoHigher, Equal, Higher, table, levels, profile, Highest}
+use Rattle.fairness.specs.Exchange.{Move, playAll, PlaysOut, Settled, improves, tiesWrongly, improvesAt, tiesAt}
 use Rattle.fairness.proofs.Theorems as fairness
 use Rattle.fairness.proofs.Standard as standard
 use Rattle.fairness.proofs.Weights.{weight-bounds}
-use Rattle.model.specs.Book.{Book, Grid, SheetOf, Lawful, cell, seats, windows, withFirst, firstSeat, instanceOf, totals}
+use Rattle.model.specs.Book.{Book, Grid, SheetOf, Lawful, cell, seats, windows, withFirst, firstSeat, placeFrom}
+use Rattle.model.specs.Book.{withBalances, balanceOf, instanceOf, totals}
 use Rattle.model.specs.Fair.{profileOf, HighestList, StandardSheet}
 use Rattle.model.specs.Search.{Found, PathOn}
 use Rattle.model.specs.Marks.{Mark, wasteful, improvable, tied, settled, Marked, markOf, passes}
@@ -202,3 +205,42 @@ first-passes b k s shape lawful = (
 
     there : (passes (markOf (withFirst k b) s) ≡ true) ↔ HighestList (withFirst k b) (profileOf (withFirst k b) s)
     there = passes-highest (withFirst k b) s shape (first-lawful b k s .0 lawful)
+
+-- ---- balances carried over
+
+module _ (b : Book) (s : Grid) where
+  -- a seat's balance plus its total
+  abbrev carried : ℕ → ℕ
+  carried i = balanceOf b i + total (instanceOf b) (cell s) i
+
+  abbrev weighed : ℕ → ℕ
+  weighed i = weightOf (getD (b .classes) i 0)
+
+  -- a level is balance plus total, divided by weight
+  pub levels-are : levels (instanceOf b) (cell s) ≡ table (seats b) (λ i. (carried i, weighed i))
+  unfolding instanceOf levels
+  levels-are = refl
+
+  -- a path improves, and ties wrongly, by balance plus total of both its ends
+  pub improves-by : (g l : ℕ) → improvesAt (instanceOf b) (cell s) g l ≡ improves (carried g) (weighed g) (carried l) (weighed l)
+  unfolding instanceOf improvesAt
+  improves-by g l = refl
+
+  pub ties-by : (g l : ℕ) → tiesAt (instanceOf b) (cell s) g l
+      ≡ tiesWrongly (carried g) (weighed g) (placeFrom (firstSeat b) (seats b) g) (carried l) (weighed l) (placeFrom (firstSeat b) (seats b) l)
+  unfolding instanceOf tiesAt
+  ties-by g l = refl
+
+-- balances that are missing are zeros: the same instance, so the same in all that is said of lists, marks, plans and the standard sheet
+pub missing-are-zeros : (b : Book) → instanceOf (withBalances none b) ≡ instanceOf (withBalances (some (replicate (seats b) 0)) b)
+unfolding instanceOf
+missing-are-zeros b =
+    ap (λ (base : ℕ → ℕ). record {
+      seats = seats b;
+      windows = windows b;
+      cap = cell (b .caps);
+      supply = λ j. getD (b .supplies) j 0;
+      weight = λ i. weightOf (getD (b .classes) i 0);
+      base = base;
+      position = placeFrom (firstSeat b) (seats b);
+    }) (fun-ext (λ i. sym (zeros-at (seats b) i)))
