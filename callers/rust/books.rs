@@ -116,10 +116,11 @@ fn large_balances(rng: &mut Rng, book: Book) -> Book {
     with_balances(rng, book, |rng| if rng.once_in(4) { rng.between(most / 2, most) } else { 0 })
 }
 
-/// A few credits for each seat, which decide ties; at times they are all zeros.
-pub fn small_balances(rng: &mut Rng, book: Book) -> Book {
-    let most = rng.below(4);
-    with_balances(rng, book, |rng| rng.between(0, most))
+/// Balances that are a few credits apart, which decide ties: from 0 up, at times all zeros, or up to the highest.
+pub fn close_balances(rng: &mut Rng, book: Book) -> Book {
+    let apart = rng.below(4);
+    let least = if rng.once_in(4) { MOST_BALANCE as usize - apart } else { 0 };
+    with_balances(rng, book, |rng| rng.between(least, least + apart))
 }
 
 /// The file of a book, with or without a sheet.

@@ -1,6 +1,6 @@
 //! Day files: accepted ones, damaged ones and noise.
 
-use super::books::{file_of, planned, same_totals, small_balances, spoilt, windows_alone, with_first, BALANCES, KINDS};
+use super::books::{close_balances, file_of, planned, same_totals, spoilt, windows_alone, with_first, BALANCES, KINDS};
 use super::reference::{Book, Sheet, SEATS, WINDOWS};
 use super::rng::Rng;
 
@@ -62,7 +62,7 @@ pub fn any_first(rng: &mut Rng, book: Book) -> Book {
 pub fn any_balances(rng: &mut Rng, book: Book) -> Book {
     match rng.below(8) {
         0..=3 => Book { balances: None, ..book },
-        4 => small_balances(rng, book),
+        4 => close_balances(rng, book),
         kind => BALANCES[kind - 5].1(rng, book),
     }
 }
