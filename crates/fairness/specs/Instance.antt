@@ -15,7 +15,7 @@ pub record Instance : Type 0 where
   pub cap : ℕ → ℕ → ℕ
   pub supply : ℕ → ℕ
   pub weight : ℕ → ℕ
-  -- what a seat's height starts from; 0 in paper 01
+  -- what a seat's height starts from; 0 in paper 01, the seat's balance in paper 02
   pub base : ℕ → ℕ
   -- a seat's place in the order of the seat rule; its own number in paper 01
   pub position : ℕ → ℕ
@@ -48,7 +48,7 @@ module _ (I : Instance) where
   abbrev pub total : Sheet → ℕ → ℕ
   total S i = sum (I .windows) (λ j. S i j)
 
-  -- paper 01's total, where heights start from 0
+  -- paper 01's total, where heights start from 0; paper 02's balance plus total
   abbrev pub height : Sheet → ℕ → ℕ
   height S i = I .base i + total S i
 

@@ -40,7 +40,7 @@ pub record Told (I : Instance) (t : Terms) (caps : Grid) : Type 0 where
 abbrev pub Shows : Terms → (ℕ → ℕ → ℕ) → Grid → Type 0
 Shows t S grid = (i j : ℕ) → i < t .seats → j < t .windows → S i j ≡ cell grid i j
 
--- the ranges of a book's numbers: paper 01's, with room for weights and for bases other than its own
+-- the ranges of a book's numbers, with room for other weights than paper 01's and for more than paper 02's balances
 pub record Ranged (t : Terms) : Type 0 where
   pub seats-most : t .seats ≤ 32
   pub windows-most : t .windows ≤ 24
