@@ -142,7 +142,7 @@ static size_t total(const credits_book *book, size_t seat) {
 static const char *const examples[] = {"k01", "k02", "k03",  "k04",  "k05", "k06", "k07",        "k08",
                                        "k09", "k10a", "k10b", "k11", "k12", "full-alone", "full-fixed", "full-ladder",
                                        "pair-a", "pair-b", "first-k03", "first-k04", "first-three", "full-first",
-                                       "standard", "balances-k05", "balances-k06", "balances-three", "full-balances"};
+                                       "standard", "balances-k05", "balances-k05b", "balances-three", "full-balances"};
 
 static void try_example(const char *folder, const char *name) {
     bytes file = load(folder, name, ".day");
@@ -497,7 +497,7 @@ static void try_wrong_first(const char *folder) {
 /* No balance is above 50,000. */
 static void try_high_balances(const char *folder) {
     static const uint16_t wrong[] = {50001, 65535};
-    bytes file = load(folder, "balances-k06", ".day"), out = block(CREDITS_FILE_MAX);
+    bytes file = load(folder, "balances-k05b", ".day"), out = block(CREDITS_FILE_MAX);
     credits_book book = book_in(file);
     bytes highest = written(with_balances(book, 50000, 50000));
     CHECK(book_in(highest).balances[0] == 50000 && book_in(highest).balances[1] == 50000);
@@ -520,7 +520,7 @@ static void try_high_balances(const char *folder) {
 
 /* There is a balance for each seat. Those of seats that are not in the book are not looked at, and where there are none, no number is. */
 static void try_wrong_balances(const char *folder) {
-    bytes file = load(folder, "balances-k06", ".day");
+    bytes file = load(folder, "balances-k05b", ".day");
     credits_book book = book_in(file);
     CHECK(book.has_balances == 1 && book.balances[0] == 0 && book.balances[1] == 4 && book.balances[2] == 0);
     book.has_balances = 7; /* any number but 0 */

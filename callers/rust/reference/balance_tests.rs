@@ -1,6 +1,6 @@
 //! Balances carried over: whose level is lower by them, and which files are turned away for them.
 
-use super::first_tests::{first_is, k8_and, tied, SETTLED};
+use super::first_tests::{first_is, k8_and, planned_to_the_byte, tied, SETTLED};
 use super::*;
 
 /// The same book with these balances.
@@ -112,16 +112,7 @@ fn k5_with_balances_0_and_4_to_the_byte() {
     let file = bytes(&format!("{contents} 0100 0200 0400 0400 0400 0000 0400"));
     let contents = "0500 010020000400 020024000200 030026000400 04002A000400 06002E000400";
     let planned = bytes(&format!("{contents} 0100 0200 0400 0400 0400 0300 0100 0000 0400"));
-    let k5 = carrying(k5(), &[0, 4]);
-    assert_eq!(file_of(&k5, None), file);
-    assert_eq!(read(&file), Ok((k5, None)));
-    let mut out = [0xee; 52];
-    assert_eq!(plan(&file, &mut out[..49]).err(), refusal(16, 50));
-    assert_eq!(plan(&file, &mut out), Ok(50));
-    assert_eq!((&out[..50], &out[50..]), (&planned[..], &[0xee; 2][..]));
-    assert_eq!(plan(&planned, &mut out), Ok(50));
-    assert_eq!(out[..50], planned[..]);
-    assert_eq!(mark(&file, &mut []).err(), refusal(13, 0));
+    planned_to_the_byte(&carrying(k5(), &[0, 4]), &file, &planned);
 }
 
 #[test]

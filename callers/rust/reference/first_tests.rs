@@ -72,15 +72,21 @@ fn k3_with_seat_2_first_to_the_byte() {
     let file = bytes(&format!("{contents} 0100 0100 0300 0300 0300 0200"));
     let contents = "0500 010020000400 020024000200 030026000400 04002A000400 05002E000200";
     let planned = bytes(&format!("{contents} 0100 0100 0300 0300 0300 0100 0200 0200"));
-    assert_eq!(file_of(&first_is(k3(), 2), None), file);
-    assert_eq!(read(&file), Ok((first_is(k3(), 2), None)));
-    let mut out = [0xee; 50];
-    assert_eq!(plan(&file, &mut out[..47]).err(), refusal(16, 48));
-    assert_eq!(plan(&file, &mut out), Ok(48));
-    assert_eq!((&out[..48], &out[48..]), (&planned[..], &[0xee; 2][..]));
-    assert_eq!(plan(&planned, &mut out), Ok(48));
-    assert_eq!(out[..48], planned[..]);
-    assert_eq!(mark(&file, &mut []).err(), refusal(13, 0));
+    planned_to_the_byte(&first_is(k3(), 2), &file, &planned);
+}
+
+/// The file of a book without a sheet, and the file that is planned of it.
+pub(super) fn planned_to_the_byte(book: &Book, file: &[u8], planned: &[u8]) {
+    let length = planned.len();
+    assert_eq!(file_of(book, None), file);
+    assert_eq!(read(file), Ok((book.clone(), None)));
+    let mut out = vec![0xee; length + 2];
+    assert_eq!(plan(file, &mut out[..length - 1]).err(), refusal(16, length));
+    assert_eq!(plan(file, &mut out), Ok(length));
+    assert_eq!((&out[..length], &out[length..]), (planned, &[0xee; 2][..]));
+    assert_eq!(plan(planned, &mut out), Ok(length));
+    assert_eq!(out[..length], *planned);
+    assert_eq!(mark(file, &mut []).err(), refusal(13, 0));
 }
 
 #[test]

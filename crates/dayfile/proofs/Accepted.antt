@@ -1,6 +1,5 @@
 -- The book and the sheet of a file that no line turns away are within paper 01's bounds; so is a book that the writer's lines take.
 -- Assumes nothing.
-use mathlib.Core.Bool.{true}
 use mathlib.Core.List.{List, _∷_}
 use mathlib.Core.Option.{Option, none, some}
 use mathlib.Core.Path.{_≡_, refl, sym, _∙_, ap, ap₂}

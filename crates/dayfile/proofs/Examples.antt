@@ -7,7 +7,7 @@ use Prim.Native.Nat.{ℕ}
 use lib.ListN.{take}
 use Rattle.fairness.specs.Leximin.{table}
 use Rattle.model.specs.Lowest.{lowest}
-use Rattle.model.specs.Book.{Book, Grid}
+use Rattle.model.specs.Book.{Book, Grid, withFirst, withBalances}
 use Rattle.dayfile.specs.Layout.{field, entryOf, ends, fieldsAt, gridAt, firstIn, balancesIn, bookOf, sheetOf}
 use Rattle.dayfile.specs.File.{bytesOf, contents, bodies, fieldsOf, assemble, flat, optPart, optParts, partsOf, fileOf}
 use Rattle.dayfile.specs.Table.{refuse, kindRight, sizeRight, gridRight, outside}
@@ -44,9 +44,9 @@ planned =
 
 -- the book with seat 1 named as the first, and with another number there
 abbrev firstIs : ℕ → Book
-firstIs k = record { classes = 1 ∷ []; supplies = 3 ∷ []; caps = (2 ∷ []) ∷ []; first = some k; balances = none }
+firstIs k = withFirst (some k) book
 
--- a further kind of one field behind kind 3, whose bytes are given: 34 bytes
+-- a file of the book with a further kind of one field behind kind 3, whose bytes are given: 34 bytes
 abbrev further : (kind low high : ℕ) → List ℕ
 further kind low high =
     0x04 ∷ 0x00
@@ -56,7 +56,7 @@ further kind low high =
     ∷ kind ∷ 0x00 ∷ 0x20 ∷ 0x00 ∷ 0x02 ∷ 0x00
     ∷ 0x01 ∷ 0x00 ∷ 0x03 ∷ 0x00 ∷ 0x02 ∷ 0x00 ∷ low ∷ high ∷ []
 
--- its file
+-- the file with a first seat
 abbrev named : ℕ → List ℕ
 named k = further 5 k 0x00
 
@@ -84,8 +84,8 @@ pub k11-read :
     × (readFile (k11 ++ (0x00 ∷ [])) ≡ turnedAway (refuse 6 27))
 unfolding readFile readLines contentsLines lengthLines valueLines optionLines
     line1 line2 line3 line4 line5 line6 line7 line8 line9 line10 line11 line12
-    line18 line19 wrongFields lowest kindRight sizeRight gridRight outside field ends entryOf firstIn balancesIn bookOf sheetOf fieldsAt gridAt
-    table
+    line18 line19 wrongFields lowest kindRight sizeRight gridRight outside field ends entryOf firstIn balancesIn bookOf sheetOf
+    fieldsAt gridAt table
 k11-read = (refl, refl, refl, refl)
 
 pub named-written : (fileOf (firstIs 1) none ≡ named 1) × (fileOf (firstIs 1) sheet ≡ named-planned)
@@ -100,13 +100,13 @@ pub named-read :
     × (readFile (named 2) ≡ turnedAway (refuse 18 32))
 unfolding readFile readLines contentsLines lengthLines valueLines optionLines
     line1 line2 line3 line4 line5 line6 line7 line8 line9 line10 line11 line12
-    line18 line19 wrongFields lowest kindRight sizeRight gridRight outside field ends entryOf firstIn balancesIn bookOf sheetOf fieldsAt gridAt
-    table
+    line18 line19 wrongFields lowest kindRight sizeRight gridRight outside field ends entryOf firstIn balancesIn bookOf sheetOf
+    fieldsAt gridAt table
 named-read = (refl, refl, refl, refl)
 
--- the book with a balance of 50,000, and with that and seat 1 named
+-- the book with a balance of 50,000, and with a first seat or none
 abbrev carried : Option ℕ → Book
-carried k = record { classes = 1 ∷ []; supplies = 3 ∷ []; caps = (2 ∷ []) ∷ []; first = k; balances = some (50000 ∷ []) }
+carried k = withBalances (some (50000 ∷ [])) (withFirst k book)
 
 -- planned: kinds 1 to 6, 50 bytes
 abbrev carried-planned : List ℕ
@@ -132,6 +132,6 @@ pub carried-read :
     × (readFile (further 7 0x50 0xC3) ≡ turnedAway (refuse 4 20))
 unfolding readFile readLines contentsLines lengthLines valueLines optionLines
     line1 line2 line3 line4 line5 line6 line7 line8 line9 line10 line11 line12
-    line18 line19 wrongFields lowest kindRight sizeRight gridRight outside field ends entryOf firstIn balancesIn bookOf sheetOf fieldsAt gridAt
-    table
+    line18 line19 wrongFields lowest kindRight sizeRight gridRight outside field ends entryOf firstIn balancesIn bookOf sheetOf
+    fieldsAt gridAt table
 carried-read = (refl, refl, refl, refl)

@@ -1,19 +1,20 @@
 -- Two files: where line 17 does not hold, what it compares is the same, and so is all that is said of sheets by it. Assumes nothing.
-use mathlib.Core.Path.{_≡_, refl, sym, ap, ap₂, _∙_}
+use mathlib.Core.Path.{_≡_, refl, sym, ap, ap₂, _∙_, fun-ext}
 use mathlib.Core.Bool.{Bool, true, true≢false}
 use mathlib.Core.List.{List, [], _∷_}
-use mathlib.Core.Option.{none}
+use mathlib.Core.Option.{none, some}
 use Prim.Native.Nat.{ℕ, _<_}
 use native.Mathlib.Omega.{arith}
 use lib.Dec.{eqb}
-use lib.ListN.{length, getD}
+use lib.ListN.{length, getD, replicate}
 use borrow.Author.Tests.{eqb-true, eq-eqb}
 use Rattle.fairness.specs.Classes.{weightOf}
-use Rattle.fairness.specs.Leximin.{Level}
+use Rattle.fairness.specs.Leximin.{Level, table}
 use Rattle.fairness.proofs.Alike.{Alike, alike-profile, alike-feasible}
+use Rattle.lists.proofs.Arrays.{zeros-at}
 use Rattle.lists.proofs.Tables.{table-at}
 use Rattle.model.specs.Book.{Book, Grid, SheetOf, Lawful, cell, seats, windows, withFirst, firstSeat, placeFrom, balanceOf, balancesOf}
-use Rattle.model.specs.Book.{instanceOf}
+use Rattle.model.specs.Book.{withBalances, instanceOf}
 use Rattle.model.specs.Fair.{profileOf, HighestList}
 use Rattle.model.proofs.Tests.{and-true}
 use Rattle.model.proofs.Theorems.{first-profile, first-lawful}
@@ -76,6 +77,17 @@ parts-same b c h =
       alike-itself (alike eqb) (alike-itself eqb eqb-itself) (c .caps),
       alike-itself eqb eqb-itself (balancesOf c),
     ) refl
+
+-- a book without balances and one with zeros are one book
+pub zeros-one-book : (b : Book) → sameBook (withBalances none b) (withBalances (some (replicate (seats b) 0)) b) ≡ true
+unfolding balancesOf
+zeros-one-book b =
+    parts-same _ _ (record {
+      classes = refl;
+      supplies = refl;
+      caps = refl;
+      balances = ap (table (seats b)) (fun-ext (λ i. sym (zeros-at (seats b) i)));
+    })
 
 -- ---- what is said of a sheet by these parts alone
 

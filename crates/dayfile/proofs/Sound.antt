@@ -154,8 +154,8 @@ module _ (f : List ℕ) (free : firstOf (readLines f) ≡ none) where
       let c = none-parts (valueLines f) (optionLines f) (b .1) in (a .0, b .0, c .0, c .1)
 
   pub sound : Sound f
-  unfolding contentsLines lengthLines valueLines optionLines line1 line2 line3 line4 line5 line6 line7 line8 line9 line10 line11 line12 line18
-      line19
+  unfolding contentsLines lengthLines valueLines optionLines line1 line2 line3 line4 line5 line6 line7 line8 line9 line10 line11 line12
+      line18 line19
   sound =
       let n = none-holds (contentsLines f) (parts .0) in
       let l = none-holds (lengthLines f) (parts .1) in

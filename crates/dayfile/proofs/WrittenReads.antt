@@ -60,7 +60,8 @@ module _ (ps : List Part) (k n low high : ℕ) where
   fits-none (some e) (some xs) h g =
       let file : List ℕ = assemble (length ps) ps in
       let long = size-is (length ps) ps refl e (h .0) ∙ ap (λ (ys : List ℕ). 2 * length ys) (h .1) ∙ ap (λ (i : ℕ). 2 * i) (g .0) in
-      let body = ap (λ (ys : List ℕ). fieldsAt file (start file e) (length ys)) (sym (h .1)) ∙ body-is (length ps) ps refl e (h .0) ∙ h .1 in
+      let there = body-is (length ps) ps refl e (h .0) in
+      let body = ap (λ (ys : List ℕ). fieldsAt file (start file e) (length ys)) (sym (h .1)) ∙ there ∙ h .1 in
       ap (λ (t : Bool). orElse (when (not t) (sizeAt e)) (outside file (start file e) n low high)) (eq-eqb (size file e) (2 * n) long)
       ∙ outside-none file (start file e) n low high xs (sym (g .0)) body (g .1)
 
@@ -75,7 +76,8 @@ module _ (ps : List Part) (k n low high : ℕ) where
       let told = listed file n low high e g in
       let size = size-is (length ps) ps refl e (h .0) ∙ ap (λ (ys : List ℕ). 2 * length ys) (h .1) in
       let long : length xs ≡ n = omega (arith, told .long) in
-      let body = ap (λ (i : ℕ). fieldsAt file (start file e) i) (ap length (sym (h .1))) ∙ body-is (length ps) ps refl e (h .0) ∙ h .1 in (
+      let there = body-is (length ps) ps refl e (h .0) in
+      let body = ap (λ (ys : List ℕ). fieldsAt file (start file e) (length ys)) (sym (h .1)) ∙ there ∙ h .1 in (
         long,
         λ i l. ap (within low high) (ap (λ (ys : List ℕ). getD ys i 0) (sym body) ∙ fields-at file (start file e) (length xs) i l)
             ∙ told .fields i (omega arith),
@@ -259,7 +261,8 @@ module _ (b : Book) (o : Option Grid) where
   first-at = first-look .body
 
   pub balances-at : BodyAt (partsOf b o)
-      (seats b + windows b + length (flat (b .caps)) + lengthIf (flatIf o) + lengthIf (oneIf (b .first))) (entryOf (fileOf b o) 6) (b .balances)
+      (seats b + windows b + length (flat (b .caps)) + lengthIf (flatIf o) + lengthIf (oneIf (b .first))) (entryOf (fileOf b o) 6)
+      (b .balances)
   unfolding fileOf partsOf
   balances-at = balances-look .body
 
@@ -391,7 +394,8 @@ module _ (b : Book) (o : Option Grid) where
     unfolding line19
     at19 =
         ap (λ (n : ℕ). andThen (entryOf f 6) (wrongFields f n 0 50000)) seats-f
-        ∙ fits-none ps behind S 0 50000 (entryOf f 6) (b .balances) (balances-look .body) (balances-list S (b .balances) (fit .balances-fit))
+        ∙ fits-none ps behind S 0 50000 (entryOf f 6) (b .balances) (balances-look .body)
+        (balances-list S (b .balances) (fit .balances-fit))
 
     no-line : firstOf (readLines f) ≡ none
     unfolding readLines contentsLines lengthLines valueLines optionLines

@@ -160,7 +160,7 @@ alike test [] (y ∷ ys) = false
 alike test (x ∷ xs) [] = false
 alike test (x ∷ xs) (y ∷ ys) = test x y && alike test xs ys
 
--- two books have the same numbers in force: classes, supplies, caps, balances
+-- two books have the same numbers in force: classes, supplies, caps, and balances, of which missing ones count as zeros
 unfoldable pub sameBook : Book → Book → Bool
 sameBook b c =
     alike eqb (b .classes) (c .classes)

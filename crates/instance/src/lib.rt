@@ -55,6 +55,7 @@ pub fn balances(book: Book) -> [u16; 32]
     [0u16; 32]
 }
 
+// A balance as wide as heights are.
 fn wide(x: u16) -> u32
     ensures { λ r. ⌜ r ≡ x ⌝ }
 {

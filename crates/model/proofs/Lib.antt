@@ -10,6 +10,7 @@ pub mod Layers
 pub mod Meaning
 pub mod Marks
 pub mod Moves
+pub mod Balances
 -- the theorems
 pub mod Agree
 pub mod Theorems

@@ -23,6 +23,7 @@ use Rattle.model.specs.Marks.{Mark, wasteful, improvable, tied, settled,
 use Rattle.model.proofs.Grids.{table-same, gridOf, gridOf-cell, gridOf-shaped, shaped-same, agree-feasible, agree-profile}
 use Rattle.model.proofs.Agree.{agree-settled, agree-standard}
 use Rattle.model.proofs.Places.{place-apart}
+use Rattle.model.proofs.Balances.{same-mark}
 use Rattle.model.proofs.Marks.{mark-means, waste-of}
 
 module _ (b : Book) where
@@ -210,28 +211,33 @@ first-passes b k s shape lawful = (
 
 module _ (b : Book) (s : Grid) where
   -- a seat's balance plus its total
-  abbrev carried : ℕ → ℕ
-  carried i = balanceOf b i + total (instanceOf b) (cell s) i
+  abbrev heightOf : ℕ → ℕ
+  heightOf i = balanceOf b i + total (instanceOf b) (cell s) i
 
-  abbrev weighed : ℕ → ℕ
-  weighed i = weightOf (getD (b .classes) i 0)
+  -- the weight of a seat's class
+  abbrev weightAt : ℕ → ℕ
+  weightAt i = weightOf (getD (b .classes) i 0)
+
+  -- a seat's place in the order of the day
+  abbrev placeAt : ℕ → ℕ
+  placeAt i = placeFrom (firstSeat b) (seats b) i
 
   -- a level is balance plus total, divided by weight
-  pub levels-are : levels (instanceOf b) (cell s) ≡ table (seats b) (λ i. (carried i, weighed i))
+  pub levels-are : levels (instanceOf b) (cell s) ≡ table (seats b) (λ i. (heightOf i, weightAt i))
   unfolding instanceOf levels
   levels-are = refl
 
   -- a path improves, and ties wrongly, by balance plus total of both its ends
-  pub improves-by : (g l : ℕ) → improvesAt (instanceOf b) (cell s) g l ≡ improves (carried g) (weighed g) (carried l) (weighed l)
+  pub improves-by : (g l : ℕ) → improvesAt (instanceOf b) (cell s) g l ≡ improves (heightOf g) (weightAt g) (heightOf l) (weightAt l)
   unfolding instanceOf improvesAt
   improves-by g l = refl
 
   pub ties-by : (g l : ℕ) → tiesAt (instanceOf b) (cell s) g l
-      ≡ tiesWrongly (carried g) (weighed g) (placeFrom (firstSeat b) (seats b) g) (carried l) (weighed l) (placeFrom (firstSeat b) (seats b) l)
+      ≡ tiesWrongly (heightOf g) (weightAt g) (placeAt g) (heightOf l) (weightAt l) (placeAt l)
   unfolding instanceOf tiesAt
   ties-by g l = refl
 
--- balances that are missing are zeros: the same instance, so the same in all that is said of lists, marks, plans and the standard sheet
+-- balances that are missing are zeros: the same instance, and so the same lists, settled sheets and standard sheet
 pub missing-are-zeros : (b : Book) → instanceOf (withBalances none b) ≡ instanceOf (withBalances (some (replicate (seats b) 0)) b)
 unfolding instanceOf
 missing-are-zeros b =
@@ -244,3 +250,7 @@ missing-are-zeros b =
       base = base;
       position = placeFrom (firstSeat b) (seats b);
     }) (fun-ext (λ i. sym (zeros-at (seats b) i)))
+
+-- and every sheet has the same mark
+pub missing-same-mark : (b : Book) (s : Grid) → markOf (withBalances none b) s ≡ markOf (withBalances (some (replicate (seats b) 0)) b) s
+missing-same-mark b s = same-mark b none (some (replicate (seats b) 0)) s (missing-are-zeros b)

@@ -20,7 +20,6 @@ use Rattle.pair.specs.Same.{SameUpTo, SameCells, SameLists}
 use Rattle.dayfile.proofs.Pairs.{SameParts, same-parts, parts-same, same-balance}
 use Rattle.dayfile.proofs.Held.{seats-in, windows-in}
 use Rattle.dayfile.proofs.Used.{class-in, supply-in, cap-in}
-use Rattle.instance.specs.Terms.{inForce}
 use Rattle.instance.proofs.Books.{balance-in}
 
 -- the same numbers in both

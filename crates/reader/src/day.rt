@@ -73,9 +73,9 @@ fn book_of(file: &[u8]) -> Book
     let entry = entry_of(file, 5);
     let has_first = is_there(entry);
     let first = field_of(file, entry);
-    let carried = entry_of(file, 6);
-    let has_balances = is_there(carried);
-    let balances = list_of(file, carried, seats);
+    let list = entry_of(file, 6);
+    let has_balances = is_there(list);
+    let balances = list_of(file, list, seats);
     Book {
         seats,
         windows,

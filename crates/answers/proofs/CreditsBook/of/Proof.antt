@@ -10,7 +10,7 @@ use Rattle.answers.proofs.CreditsBook.of.Tie as tie
 
 -- with what its three flags turned out to be
 abbrev told : Day → ℕ → ℕ → ℕ → CreditsBook
-told d sheet first carried =
+told d sheet first balances =
     record {
       seats = d .book .seats;
       windows = d .book .windows;
@@ -21,7 +21,7 @@ told d sheet first carried =
       sheet = d .sheet;
       «has_first» = first;
       first = d .book .first;
-      «has_balances» = carried;
+      «has_balances» = balances;
       balances = d .book .balances;
     }
 

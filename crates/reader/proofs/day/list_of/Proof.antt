@@ -1,6 +1,6 @@
 use mathlib.Core.List.{List, []}
 use mathlib.Core.Option.{Option, some}
-use mathlib.Core.Path.{refl, _∙_, ap, sym}
+use mathlib.Core.Path.{_∙_, ap, sym}
 use Prim.Native.Nat.{ℕ}
 use native.Mathlib.Omega.{arith}
 use denote.Ref.{now}

@@ -1,5 +1,5 @@
 -- `store::put_options` meets its contract: the first seat, then the balances; what is missing has no fields.
-use mathlib.Core.List.{List, [], _∷_}
+use mathlib.Core.List.{[], _∷_}
 use mathlib.Core.Path.{_≡_, sym, _∙_, ap}
 use Prim.Native.Nat.{ℕ}
 use borrow.Author.Needs.{needs}
