@@ -93,7 +93,7 @@ grid-size f e g k =
     eqb-true (size f e) cells (cond-when (within 3 4 (kind f e)) (eqb (size f e) cells) true g k)
 
 -- the first of two lines that do not hold, and the second
-pub neither : (o p : Option ℕ) → orElse o p ≡ none → (o ≡ none) × (p ≡ none)
+neither : (o p : Option ℕ) → orElse o p ≡ none → (o ≡ none) × (p ≡ none)
 neither none p e = (refl, e)
 neither (some x) p e = absurd (let z : _≡_ {A = ℕ} 0 1 = cc in omega arith)
 
