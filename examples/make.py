@@ -17,7 +17,8 @@ import subprocess
 import sys
 
 HERE = pathlib.Path(__file__).resolve().parent
-PARTS = ["classes", "supplies", "caps", "sheet", "first", "balances"]  # kinds 1 to 6; a text may leave out the last three
+# kinds 1 to 7; a text may leave out the last four
+PARTS = ["classes", "supplies", "caps", "sheet", "first", "balances", "weights"]
 
 
 def parse(text):
