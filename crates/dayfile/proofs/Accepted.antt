@@ -1,5 +1,6 @@
 -- The book and the sheet of a file that no line turns away are within paper 01's bounds; so is a book that the writer's lines take.
 -- Assumes nothing.
+use mathlib.Core.Bool.{false}
 use mathlib.Core.List.{List, _∷_}
 use mathlib.Core.Option.{Option, none, some}
 use mathlib.Core.Path.{_≡_, refl, sym, _∙_, ap, ap₂}
@@ -186,16 +187,16 @@ module _ (b : Book) (o : Option Grid) (shape : Shaped (seats b) (windows b) (b .
   unfolding line18 fileOf partsOf
   seat-fits e =
       list-seat (seats b) (b .first)
-      (none-fits ps _ 1 1 (seats b) (entryOf file 5) (oneIf (b .first)) (first-at b o)
-      (ap (λ (n : ℕ). andThen (entryOf file 5) (wrongFields file 1 1 n)) (sym (written-seats b o)) ∙ e))
+      (none-fits ps _ 1 1 (seats b) false (entryOf file 5) (oneIf (b .first)) (first-at b o)
+      (ap (λ (n : ℕ). andThen (entryOf file 5) (wrongFields file 1 1 n false)) (sym (written-seats b o)) ∙ e))
 
   -- balances that line 19 lets pass
   carried-fit : line19 file ≡ none → BalancesFit (seats b) (b .balances)
   unfolding line19 fileOf partsOf
   carried-fit e =
       list-balances (seats b) (b .balances)
-      (none-fits ps _ (seats b) 0 50000 (entryOf file 6) (b .balances) (balances-at b o)
-      (ap (λ (n : ℕ). andThen (entryOf file 6) (wrongFields file n 0 50000)) (sym (written-seats b o)) ∙ e))
+      (none-fits ps _ (seats b) 0 50000 false (entryOf file 6) (b .balances) (balances-at b o)
+      (ap (λ (n : ℕ). andThen (entryOf file 6) (wrongFields file n 0 50000 false)) (sym (written-seats b o)) ∙ e))
 
   file-fits : (room : ℕ) → firstOf (writeLines file room) ≡ none → Fit b
   unfolding fileOf partsOf

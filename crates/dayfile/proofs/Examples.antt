@@ -10,7 +10,7 @@ use Rattle.model.specs.Lowest.{lowest}
 use Rattle.model.specs.Book.{Book, Grid, withFirst, withBalances}
 use Rattle.dayfile.specs.Layout.{field, entryOf, ends, fieldsAt, gridAt, firstIn, balancesIn, bookOf, sheetOf}
 use Rattle.dayfile.specs.File.{bytesOf, contents, bodies, fieldsOf, assemble, flat, optPart, optParts, partsOf, fileOf}
-use Rattle.dayfile.specs.Table.{refuse, kindRight, sizeRight, gridRight, outside}
+use Rattle.dayfile.specs.Table.{refuse, kindRight, sizeRight, gridRight, wrongField}
 use Rattle.dayfile.specs.Table.{line1, line2, line3, line4, line5, line6, line7, line8, line9, line10, line11, line12}
 use Rattle.dayfile.specs.Table.{wrongFields, line18, line19, contentsLines, lengthLines, valueLines, optionLines, readLines}
 use Rattle.dayfile.specs.Outcome.{turnedAway, answer, readFile}
@@ -84,7 +84,7 @@ pub k11-read :
     × (readFile (k11 ++ (0x00 ∷ [])) ≡ turnedAway (refuse 6 27))
 unfolding readFile readLines contentsLines lengthLines valueLines optionLines
     line1 line2 line3 line4 line5 line6 line7 line8 line9 line10 line11 line12
-    line18 line19 wrongFields lowest kindRight sizeRight gridRight outside field ends entryOf firstIn balancesIn bookOf sheetOf
+    line18 line19 wrongFields lowest kindRight sizeRight gridRight wrongField field ends entryOf firstIn balancesIn bookOf sheetOf
     fieldsAt gridAt table
 k11-read = (refl, refl, refl, refl)
 
@@ -100,7 +100,7 @@ pub named-read :
     × (readFile (named 2) ≡ turnedAway (refuse 18 32))
 unfolding readFile readLines contentsLines lengthLines valueLines optionLines
     line1 line2 line3 line4 line5 line6 line7 line8 line9 line10 line11 line12
-    line18 line19 wrongFields lowest kindRight sizeRight gridRight outside field ends entryOf firstIn balancesIn bookOf sheetOf
+    line18 line19 wrongFields lowest kindRight sizeRight gridRight wrongField field ends entryOf firstIn balancesIn bookOf sheetOf
     fieldsAt gridAt table
 named-read = (refl, refl, refl, refl)
 
@@ -132,6 +132,6 @@ pub carried-read :
     × (readFile (further 7 0x50 0xC3) ≡ turnedAway (refuse 4 20))
 unfolding readFile readLines contentsLines lengthLines valueLines optionLines
     line1 line2 line3 line4 line5 line6 line7 line8 line9 line10 line11 line12
-    line18 line19 wrongFields lowest kindRight sizeRight gridRight outside field ends entryOf firstIn balancesIn bookOf sheetOf
+    line18 line19 wrongFields lowest kindRight sizeRight gridRight wrongField field ends entryOf firstIn balancesIn bookOf sheetOf
     fieldsAt gridAt table
 carried-read = (refl, refl, refl, refl)

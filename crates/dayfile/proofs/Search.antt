@@ -1,6 +1,6 @@
 -- Loops that search for the lowest number that passes a test, and what the offset of the answer tells.
 -- Assumes nothing.
-use mathlib.Core.Bool.{Bool, true, false}
+use mathlib.Core.Bool.{Bool, true, false, not}
 use mathlib.Core.List.{List}
 use mathlib.Core.Option.{Option, none, some}
 use mathlib.Core.Path.{_≡_, refl, sym, _∙_, ap, ap₂}
@@ -9,7 +9,9 @@ use native.Mathlib.Numerals.{add-one}
 use native.Mathlib.Omega.{arith}
 use Rattle.model.specs.Lowest.{lowest}
 use Rattle.model.proofs.Lowest.{lowest-is, lowest-none}
-use Rattle.dayfile.specs.Table.{offset, outside}
+use Rattle.dayfile.specs.Layout.{field}
+use Rattle.dayfile.specs.Table.{offset, previous, rightAfter, numberRight, wrongField, outside}
+use Rattle.dayfile.proofs.Tests.{turned}
 
 -- ---- a search in progress
 
@@ -53,40 +55,72 @@ module _ {bad : ℕ → Bool} {m n : ℕ} where
   pub search-end : {i : ℕ} → Searching bad m n i → n ≤ i → none ≡ lowest m bad
   search-end s l = none-here bad (s .clear) (s .inside) l (s .whole)
 
--- the same loop by the offsets of the places, two bytes each, from `at` on: `while p + 1 < end { if bad(p) { return p; } p += 2; }`
-pub record Walking (bad : ℕ → Bool) (at n end p : ℕ) : Type 0 where
+-- ---- the same loop through a row of numbers, where each is held against the one before:
+-- `while i < n { if !right_after(.., before, x(i)) { return i; } before = x(i); i += 1; }`
+
+pub record Following (low high : ℕ) (rising : Bool) (x : ℕ → ℕ) (n before i : ℕ) : Type 0 where
+  pub search : Searching (λ k. not (numberRight low high rising x k)) n n i
+  pub last : before ≡ previous x i
+
+module _ {low high : ℕ} {rising : Bool} {x : ℕ → ℕ} {n : ℕ} where
+  pub follow-first : Following low high rising x n 0 0
+  follow-first = record { search = search-first refl; last = refl }
+
+  -- the code's test of number i
+  follow-test : {before i y : ℕ} {t : Bool} → Following low high rising x n before i → t ≡ rightAfter low high rising before y → y ≡ x i
+      → t ≡ numberRight low high rising x i
+  follow-test s e q = e ∙ ap₂ (rightAfter low high rising) (s .last) q
+
+  pub follow-on : {before i y : ℕ} {t : Bool} → Following low high rising x n before i → i < n
+      → t ≡ rightAfter low high rising before y → y ≡ x i → not t ≡ false → Following low high rising x n y (i + 1)
+  follow-on {before} {i} s l e q h =
+      record { search = search-on (s .search) l (turned (follow-test s e q) h); last = q ∙ sym (ap (previous x) (add-one i)) }
+
+  pub follow-hit : {before i y : ℕ} {t : Bool} → Following low high rising x n before i → i < n
+      → t ≡ rightAfter low high rising before y → y ≡ x i → not t ≡ true
+      → some i ≡ lowest n (λ k. not (numberRight low high rising x k))
+  follow-hit s l e q h = search-hit (s .search) l (turned (follow-test s e q) h)
+
+  pub follow-end : {before i : ℕ} → Following low high rising x n before i → n ≤ i
+      → none ≡ lowest n (λ k. not (numberRight low high rising x k))
+  follow-end s l = search-end (s .search) l
+
+-- through the fields of a file from `at` on, by their offsets, two bytes each: `while p + 1 < end { ..; p += 2; }`
+pub record Walking (f : List ℕ) (low high : ℕ) (rising : Bool) (at n end before p : ℕ) : Type 0 where
   pub place : ℕ
   pub here : p ≡ at + 2 * place
   pub ends : end ≡ at + 2 * n
-  pub search : Searching (λ i. bad (at + 2 * i)) n n place
+  pub follow : Following low high rising (λ k. field f (at + 2 * k)) n before place
 
-module _ {bad : ℕ → Bool} {at n end : ℕ} where
-  pub walk-first : end ≡ at + 2 * n → Walking bad at n end at
-  walk-first e = record { place = 0; here = omega arith; ends = e; search = search-first refl }
+module _ {f : List ℕ} {low high : ℕ} {rising : Bool} {at n end : ℕ} where
+  pub walk-first : end ≡ at + 2 * n → Walking f low high rising at n end 0 at
+  walk-first e = record { place = 0; here = omega arith; ends = e; follow = follow-first }
 
-  pub walk-on : {p : ℕ} → Walking bad at n end p → p + 1 < end → bad p ≡ false → Walking bad at n end (p + 2)
-  walk-on w l b =
-      let h = w .here in
-      let e = w .ends in
+  pub walk-on : {before p y : ℕ} {t : Bool} → Walking f low high rising at n end before p → p + 1 < end
+      → t ≡ rightAfter low high rising before y → y ≡ field f p → not t ≡ false → Walking f low high rising at n end y (p + 2)
+  walk-on w l e q h =
+      let p = w .here in
+      let z = w .ends in
       record {
         place = w .place + 1;
         here = omega arith;
-        ends = e;
-        search = search-on (w .search) (omega arith) (ap bad (sym h) ∙ b);
+        ends = z;
+        follow = follow-on (w .follow) (omega arith) e (q ∙ ap (field f) p) h;
       }
 
-  pub walk-hit : {p : ℕ} → Walking bad at n end p → p + 1 < end → bad p ≡ true
-      → some p ≡ offset (λ i. at + 2 * i) (lowest n (λ i. bad (at + 2 * i)))
-  walk-hit w l b =
-      let h = w .here in
-      let e = w .ends in
-      ap some h ∙ ap (offset (λ i. at + 2 * i)) (search-hit (w .search) (omega arith) (ap bad (sym h) ∙ b))
+  pub walk-hit : {before p y : ℕ} {t : Bool} → Walking f low high rising at n end before p → p + 1 < end
+      → t ≡ rightAfter low high rising before y → y ≡ field f p → not t ≡ true → some p ≡ wrongField f at n low high rising
+  unfolding wrongField
+  walk-hit w l e q h =
+      let p = w .here in
+      let z = w .ends in
+      ap some p ∙ ap (offset (λ i. at + 2 * i)) (follow-hit (w .follow) (omega arith) e (q ∙ ap (field f) p) h)
 
-  pub walk-end : {p : ℕ} → Walking bad at n end p → end ≤ p + 1
-      → none ≡ offset (λ i. at + 2 * i) (lowest n (λ i. bad (at + 2 * i)))
+  pub walk-end : {before p : ℕ} → Walking f low high rising at n end before p → end ≤ p + 1 → none ≡ wrongField f at n low high rising
+  unfolding wrongField
   walk-end w l =
-      let h = w .here in
-      let e = w .ends in ap (offset (λ i. at + 2 * i)) (search-end (w .search) (omega arith))
+      let p = w .here in
+      let z = w .ends in ap (offset (λ i. at + 2 * i)) (follow-end (w .follow) (omega arith))
 
 -- the fields of a body, where its start and their number are told
 pub outside-as : (f : List ℕ) (low high : ℕ) {r : Option ℕ} {a b n m : ℕ}
@@ -108,3 +142,15 @@ pub same-search : (bad worse : ℕ → Bool) (n : ℕ) → ((i : ℕ) → i < n 
 unfolding lowest
 same-search bad worse zero h = refl
 same-search bad worse (suc n) h = rw (same-search bad worse n (λ i p. h i (omega arith)), h n (omega arith))
+
+-- a number is right by itself and the one before it, so rows with the same n numbers have the same first wrong one
+module _ (low high : ℕ) (rising : Bool) (x y : ℕ → ℕ) where
+  pub right-same : (i : ℕ) → ((k : ℕ) → k ≤ i → x k ≡ y k) → numberRight low high rising x i ≡ numberRight low high rising y i
+  right-same zero h = ap (rightAfter low high rising 0) (h 0 (omega arith))
+  right-same (suc i) h = ap₂ (rightAfter low high rising) (h i (omega arith)) (h (suc i) (omega arith))
+
+  pub wrong-same : (n : ℕ) → ((k : ℕ) → k < n → x k ≡ y k)
+      → lowest n (λ i. not (numberRight low high rising x i)) ≡ lowest n (λ i. not (numberRight low high rising y i))
+  wrong-same n h =
+      same-search (λ i. not (numberRight low high rising x i)) (λ i. not (numberRight low high rising y i)) n
+      (λ i l. ap not (right-same i (λ k m. h k (omega arith))))

@@ -16,7 +16,7 @@ use Rattle.model.proofs.Lowest.{lowest-none}
 use Rattle.model.proofs.Tests.{and-true}
 use Rattle.dayfile.specs.Layout.{field, count, contentsEnd, kind, start, size, ends, seatsIn, windowsIn, kindAt, startAt, sizeAt}
 use Rattle.dayfile.specs.Layout.{entryOf}
-use Rattle.dayfile.specs.Table.{firstOf, within, offset, known, kindRight, sizeRight, gridRight, outside}
+use Rattle.dayfile.specs.Table.{firstOf, within, offset, known, kindRight, sizeRight, gridRight, numberRight, wrongField, outside}
 use Rattle.dayfile.specs.Table.{line1, line2, line3, line4, line5, line6, line7, line8, line9, line10, line11, line12}
 use Rattle.dayfile.specs.Table.{wrongFields, line18, line19, contentsLines, lengthLines, valueLines, optionLines, readLines}
 use Rattle.dayfile.proofs.Tests.{within-low, within-high, when-none}
@@ -30,9 +30,13 @@ bodyFields f k =
     let n : ℕ = seatsIn f in
     let m : ℕ = windowsIn f in getD (0 ∷ n ∷ m ∷ n * m ∷ n * m ∷ 1 ∷ n ∷ []) k 0
 
+-- each of n fields from an offset on is right
+abbrev pub FieldsRight : List ℕ → ℕ → ℕ → ℕ → ℕ → Bool → Type 0
+FieldsRight f at n low high rising = (i : ℕ) → i < n → numberRight low high rising (λ k. field f (at + 2 * k)) i ≡ true
+
 -- each of n fields from an offset on is low to high
 abbrev pub FieldsWithin : List ℕ → ℕ → ℕ → ℕ → ℕ → Type 0
-FieldsWithin f at n low high = (i : ℕ) → i < n → within low high (field f (at + 2 * i)) ≡ true
+FieldsWithin f at n low high = FieldsRight f at n low high false
 
 pub record Sound (f : List ℕ) : Type 0 where
   pub order : InOrder f
@@ -63,9 +67,13 @@ all-right at right n e i h =
     let wrong : ℕ → Bool = λ k. not (right k) in
     not-false (right i) (lowest-none n wrong (offset-none at (lowest n wrong) e) i h)
 
+none-wrong : (f : List ℕ) (at n low high : ℕ) (rising : Bool) → wrongField f at n low high rising ≡ none
+    → FieldsRight f at n low high rising
+unfolding wrongField
+none-wrong f at n low high rising e = all-right (λ i. at + 2 * i) (numberRight low high rising (λ k. field f (at + 2 * k))) n e
+
 pub none-outside : (f : List ℕ) (at n low high : ℕ) → outside f at n low high ≡ none → FieldsWithin f at n low high
-unfolding outside
-none-outside f at n low high e = all-right (λ i. at + 2 * i) (λ i. within low high (field f (at + 2 * i))) n e
+none-outside f at n low high e = none-wrong f at n low high false e
 
 cond-when : (t x y : Bool) → cond t x y ≡ true → t ≡ true → x ≡ true
 cond-when true x y e h = e
@@ -97,25 +105,26 @@ neither : (o p : Option ℕ) → orElse o p ≡ none → (o ≡ none) × (p ≡ 
 neither none p e = (refl, e)
 neither (some x) p e = absurd (let z : _≡_ {A = ℕ} 0 1 = cc in omega arith)
 
--- the body of an entry has n fields, each low to high
-pub record Listed (f : List ℕ) (n low high e : ℕ) : Type 0 where
+-- the body of an entry has n fields, each of them right
+pub record Listed (f : List ℕ) (n low high : ℕ) (rising : Bool) (e : ℕ) : Type 0 where
   pub long : size f e ≡ 2 * n
-  pub fields : FieldsWithin f (start f e) n low high
+  pub fields : FieldsRight f (start f e) n low high rising
 
-pub listed : (f : List ℕ) (n low high e : ℕ) → wrongFields f n low high e ≡ none → Listed f n low high e
+pub listed : (f : List ℕ) (n low high : ℕ) (rising : Bool) (e : ℕ) → wrongFields f n low high rising e ≡ none
+    → Listed f n low high rising e
 unfolding wrongFields
-listed f n low high e h =
+listed f n low high rising e h =
     let both = neither _ _ h in
     record {
       long = eqb-true (size f e) (2 * n) (kept (eqb (size f e) (2 * n)) (sizeAt e) (both .0));
-      fields = none-outside f (start f e) n low high (both .1);
+      fields = none-wrong f (start f e) n low high rising (both .1);
     }
 
 -- the body of a kind that may be missing, whose line does not hold
-listed-at : (f : List ℕ) (k n low high : ℕ) → andThen (entryOf f k) (wrongFields f n low high) ≡ none
-    → (e : ℕ) → entryOf f k ≡ some e → Listed f n low high e
-listed-at f k n low high h e q =
-    listed f n low high e (ap (λ (r : Option ℕ). andThen r (wrongFields f n low high)) (sym q) ∙ h)
+listed-at : (f : List ℕ) (k n low high : ℕ) (rising : Bool) → andThen (entryOf f k) (wrongFields f n low high rising) ≡ none
+    → (e : ℕ) → entryOf f k ≡ some e → Listed f n low high rising e
+listed-at f k n low high rising h e q =
+    listed f n low high rising e (ap (λ (r : Option ℕ). andThen r (wrongFields f n low high rising)) (sym q) ∙ h)
 
 -- ---- the length of each body, by its kind: one step for each kind from 3 on
 
@@ -171,10 +180,10 @@ module _ (f : List ℕ) (free : firstOf (readLines f) ≡ none) where
       let ev8 = eight .even in
       let nine : (k : ℕ) → within 3 4 k ≡ true → (e : ℕ) → e < count f → kind f e ≡ k → size f e ≡ 2 * (seatsIn f * windowsIn f) =
       λ k g e h q. grid-size f e (all-right sizeAt (gridRight f) (count f) (l .1 .1 .0) e h) (ap (within 3 4) q ∙ g) in
-      let seat = listed-at f 5 1 1 (seatsIn f) (w .0) in
+      let seat = listed-at f 5 1 1 (seatsIn f) false (w .0) in
       let one : (e : ℕ) → e < count f → kind f e ≡ 5 → size f e ≡ 2 * 1 =
       λ e h q. seat e (entry-is f o e 5 (omega arith) h q) .long in
-      let carried = listed-at f 6 (seatsIn f) 0 50000 (w .1 .0) in
+      let carried = listed-at f 6 (seatsIn f) 0 50000 false (w .1 .0) in
       let each : (e : ℕ) → e < count f → kind f e ≡ 6 → size f e ≡ 2 * seatsIn f =
       λ e h q. carried e (entry-is f o e 6 (omega arith) h q) .long in
       record {

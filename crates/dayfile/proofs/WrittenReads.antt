@@ -16,10 +16,11 @@ use Rattle.dayfile.specs.Bounds.{Fit, FirstFit, BalancesFit, SheetFit}
 use Rattle.dayfile.specs.Layout.{field, count, contentsEnd, kind, start, size, ends, seatsIn, windowsIn, kindAt, startAt, sizeAt}
 use Rattle.dayfile.specs.Layout.{entryOf, fieldsAt, gridAt, gridIn, firstIn, balancesIn, bookOf, sheetOf}
 use Rattle.dayfile.specs.File.{Part, part, partsOf, flatIf, oneIf, optPart, optParts, flat, assemble, fileOf}
-use Rattle.dayfile.specs.Table.{firstOf, within, offset, known, kindRight, sizeRight, gridRight, outside}
+use Rattle.dayfile.specs.Table.{firstOf, within, offset, known, kindRight, sizeRight, gridRight, numberRight, wrongField, outside}
 use Rattle.dayfile.specs.Table.{line1, line2, line3, line4, line5, line6, line7, line8, line9, line10, line11, line12}
 use Rattle.dayfile.specs.Table.{wrongFields, line18, line19, contentsLines, lengthLines, valueLines, optionLines, readLines}
 use Rattle.dayfile.proofs.Tests.{is-within, within-low, within-high, cond-no}
+use Rattle.dayfile.proofs.Search.{right-same}
 use Rattle.dayfile.proofs.Fields.{fields-at}
 use Rattle.dayfile.proofs.Grids.{flat-length, flat-cell, grid-there}
 use Rattle.dayfile.proofs.Container.{nth, before-none, before-all, file-size, count-is, kind-is, start-is, size-is, ends-is, body-is}
@@ -28,31 +29,41 @@ use Rattle.dayfile.proofs.Sound.{listed}
 use Rattle.dayfile.proofs.Optional.{Above, above-opt, above-next, Each, each-nth, each-opt, IfThere, few-opt}
 use Rattle.dayfile.proofs.Optional.{lengthIf, BodyAt, Looked, look}
 
--- each number of a list is low to high
-abbrev pub AllWithin : ℕ → ℕ → List ℕ → Type 0
-AllWithin low high xs = (i : ℕ) → i < length xs → within low high (getD xs i 0) ≡ true
+-- each number of a list is right
+abbrev pub AllRight : ℕ → ℕ → Bool → List ℕ → Type 0
+AllRight low high rising xs = (i : ℕ) → i < length xs → numberRight low high rising (λ k. getD xs k 0) i ≡ true
+
+-- the fields of an offset are the numbers of a list
+same-right : (f : List ℕ) (at low high : ℕ) (rising : Bool) (xs : List ℕ) → fieldsAt f at (length xs) ≡ xs → (i : ℕ) → i < length xs
+    → numberRight low high rising (λ k. field f (at + 2 * k)) i ≡ numberRight low high rising (λ k. getD xs k 0) i
+same-right f at low high rising xs q i l =
+    right-same low high rising (λ k. field f (at + 2 * k)) (λ k. getD xs k 0) i
+    (λ k h. sym (fields-at f at (length xs) k (omega arith)) ∙ ap (λ (ys : List ℕ). getD ys k 0) q)
+
+-- fields that are all right
+right-none : (f : List ℕ) (at n low high : ℕ) (rising : Bool) (xs : List ℕ)
+    → n ≡ length xs → fieldsAt f at (length xs) ≡ xs → AllRight low high rising xs → wrongField f at n low high rising ≡ none
+unfolding wrongField
+right-none f at n low high rising xs e q h =
+    ap (offset (λ i. at + 2 * i))
+    (lowest-fails n (λ i. not (numberRight low high rising (λ k. field f (at + 2 * k)) i))
+    (λ i p. ap not (same-right f at low high rising xs q i (omega arith) ∙ h i (omega arith))))
 
 -- fields that are all low to high
-pub outside-none : (f : List ℕ) (at n low high : ℕ) (xs : List ℕ)
-    → n ≡ length xs → fieldsAt f at (length xs) ≡ xs → AllWithin low high xs → outside f at n low high ≡ none
-unfolding outside
-outside-none f at n low high xs e q h =
-    let here : (i : ℕ) → i < n → field f (at + 2 * i) ≡ getD xs i 0 =
-    λ i p. sym (fields-at f at (length xs) i (omega arith)) ∙ ap (λ (ys : List ℕ). getD ys i 0) q in
-    ap (offset (λ i. at + 2 * i))
-    (lowest-fails n (λ i. not (within low high (field f (at + 2 * i))))
-    (λ i p. ap (λ (x : ℕ). not (within low high x)) (here i p) ∙ ap not (h i (omega arith))))
+outside-none : (f : List ℕ) (at n low high : ℕ) (xs : List ℕ)
+    → n ≡ length xs → fieldsAt f at (length xs) ≡ xs → AllRight low high false xs → outside f at n low high ≡ none
+outside-none f at n low high xs e q h = right-none f at n low high false xs e q h
 
 -- ---- a body that may be missing: what its line says, by its numbers
 
--- n numbers, each low to high
-abbrev pub ListFit : ℕ → ℕ → ℕ → List ℕ → Type 0
-ListFit n low high xs = (length xs ≡ n) × AllWithin low high xs
+-- n numbers, each of them right
+abbrev pub ListFit : ℕ → ℕ → ℕ → Bool → List ℕ → Type 0
+ListFit n low high rising xs = (length xs ≡ n) × AllRight low high rising xs
 
-module _ (ps : List Part) (k n low high : ℕ) where
+module _ (ps : List Part) (k n low high : ℕ) (rising : Bool) where
   -- its line does not hold where it fits
-  fits-none : (r : Option ℕ) (o : Option (List ℕ)) → BodyAt ps k r o → IfThere (ListFit n low high) o
-      → andThen r (wrongFields (assemble (length ps) ps) n low high) ≡ none
+  fits-none : (r : Option ℕ) (o : Option (List ℕ)) → BodyAt ps k r o → IfThere (ListFit n low high rising) o
+      → andThen r (wrongFields (assemble (length ps) ps) n low high rising) ≡ none
   unfolding wrongFields
   fits-none none none h g = refl
   fits-none none (some xs) h g = absurd h
@@ -62,47 +73,47 @@ module _ (ps : List Part) (k n low high : ℕ) where
       let long = size-is (length ps) ps refl e (h .0) ∙ ap (λ (ys : List ℕ). 2 * length ys) (h .1) ∙ ap (λ (i : ℕ). 2 * i) (g .0) in
       let there = body-is (length ps) ps refl e (h .0) in
       let body = ap (λ (ys : List ℕ). fieldsAt file (start file e) (length ys)) (sym (h .1)) ∙ there ∙ h .1 in
-      ap (λ (t : Bool). orElse (when (not t) (sizeAt e)) (outside file (start file e) n low high)) (eq-eqb (size file e) (2 * n) long)
-      ∙ outside-none file (start file e) n low high xs (sym (g .0)) body (g .1)
+      ap (λ (t : Bool). orElse (when (not t) (sizeAt e)) (wrongField file (start file e) n low high rising))
+      (eq-eqb (size file e) (2 * n) long)
+      ∙ right-none file (start file e) n low high rising xs (sym (g .0)) body (g .1)
 
   -- and nowhere else
   pub none-fits : (r : Option ℕ) (o : Option (List ℕ)) → BodyAt ps k r o
-      → andThen r (wrongFields (assemble (length ps) ps) n low high) ≡ none → IfThere (ListFit n low high) o
+      → andThen r (wrongFields (assemble (length ps) ps) n low high rising) ≡ none → IfThere (ListFit n low high rising) o
   none-fits none none h g = tt
   none-fits none (some xs) h g = absurd h
   none-fits (some e) none h g = absurd h
   none-fits (some e) (some xs) h g =
       let file : List ℕ = assemble (length ps) ps in
-      let told = listed file n low high e g in
+      let told = listed file n low high rising e g in
       let size = size-is (length ps) ps refl e (h .0) ∙ ap (λ (ys : List ℕ). 2 * length ys) (h .1) in
       let long : length xs ≡ n = omega (arith, told .long) in
       let there = body-is (length ps) ps refl e (h .0) in
       let body = ap (λ (ys : List ℕ). fieldsAt file (start file e) (length ys)) (sym (h .1)) ∙ there ∙ h .1 in (
         long,
-        λ i l. ap (within low high) (ap (λ (ys : List ℕ). getD ys i 0) (sym body) ∙ fields-at file (start file e) (length xs) i l)
-            ∙ told .fields i (omega arith),
+        λ i l. sym (same-right file (start file e) low high rising xs body i l) ∙ told .fields i (omega arith),
       )
 
 -- a first seat is one number
-seat-list : (n : ℕ) (k : Option ℕ) → FirstFit n k → IfThere (ListFit 1 1 n) (oneIf k)
+seat-list : (n : ℕ) (k : Option ℕ) → FirstFit n k → IfThere (ListFit 1 1 n false) (oneIf k)
 seat-list n none h = tt
 seat-list n (some x) h = (refl, one)
   where
-    one : AllWithin 1 n (x ∷ [])
+    one : AllRight 1 n false (x ∷ [])
     one zero l = is-within 1 n x (h .0) (h .1)
     one (suc i) l = absurd (omega arith)
 
-pub list-seat : (n : ℕ) (k : Option ℕ) → IfThere (ListFit 1 1 n) (oneIf k) → FirstFit n k
+pub list-seat : (n : ℕ) (k : Option ℕ) → IfThere (ListFit 1 1 n false) (oneIf k) → FirstFit n k
 list-seat n none h = tt
 list-seat n (some x) h = let v = h .1 0 (omega arith) in (within-low 1 n x v, within-high 1 n x v)
 
 -- balances are one number for each seat
-balances-list : (n : ℕ) (o : Option (List ℕ)) → BalancesFit n o → IfThere (ListFit n 0 50000) o
+balances-list : (n : ℕ) (o : Option (List ℕ)) → BalancesFit n o → IfThere (ListFit n 0 50000 false) o
 balances-list n none h = tt
 balances-list n (some xs) h =
     let long = h .0 in (long, λ i l. is-within 0 50000 (getD xs i 0) zero-le (h .1 i (omega arith)))
 
-pub list-balances : (n : ℕ) (o : Option (List ℕ)) → IfThere (ListFit n 0 50000) o → BalancesFit n o
+pub list-balances : (n : ℕ) (o : Option (List ℕ)) → IfThere (ListFit n 0 50000 false) o → BalancesFit n o
 list-balances n none h = tt
 list-balances n (some xs) h =
     let long = h .0 in (long, λ i l. within-high 0 50000 (getD xs i 0) (h .1 i (omega arith)))
@@ -387,14 +398,14 @@ module _ (b : Book) (o : Option Grid) where
     at18 : line18 f ≡ none
     unfolding line18
     at18 =
-        ap (λ (n : ℕ). andThen (entryOf f 5) (wrongFields f 1 1 n)) seats-f
-        ∙ fits-none ps ahead 1 1 S (entryOf f 5) (oneIf (b .first)) (first-look .body) (seat-list S (b .first) (fit .first-seat))
+        ap (λ (n : ℕ). andThen (entryOf f 5) (wrongFields f 1 1 n false)) seats-f
+        ∙ fits-none ps ahead 1 1 S false (entryOf f 5) (oneIf (b .first)) (first-look .body) (seat-list S (b .first) (fit .first-seat))
 
     at19 : line19 f ≡ none
     unfolding line19
     at19 =
-        ap (λ (n : ℕ). andThen (entryOf f 6) (wrongFields f n 0 50000)) seats-f
-        ∙ fits-none ps behind S 0 50000 (entryOf f 6) (b .balances) (balances-look .body)
+        ap (λ (n : ℕ). andThen (entryOf f 6) (wrongFields f n 0 50000 false)) seats-f
+        ∙ fits-none ps behind S 0 50000 false (entryOf f 6) (b .balances) (balances-look .body)
         (balances-list S (b .balances) (fit .balances-fit))
 
     no-line : firstOf (readLines f) ≡ none

@@ -1,10 +1,10 @@
 -- Paper 01, "Where each file is turned away", with the lines of paper 02: each line of the table gives the lowest offset at which its
 -- condition holds, or nothing.
 -- The comments are the table's own words: the condition, and the offset given.
-use mathlib.Core.Bool.{Bool, true, false, not, cond, _&&_}
+use mathlib.Core.Bool.{Bool, true, false, not, cond, _&&_, _||_}
 use mathlib.Core.List.{List, [], _∷_, _++_}
 use mathlib.Core.Option.{Option, none, some}
-use Prim.Native.Nat.{ℕ, _+_, _-_, _*_, _%_}
+use Prim.Native.Nat.{ℕ, zero, suc, _+_, _-_, _*_, _%_}
 use lib.Dec.{leb, ltb, eqb}
 use lib.ListN.{length}
 use Rattle.fairness.specs.Sums.{sum}
@@ -88,9 +88,27 @@ line9 f = wrongEntry sizeAt gridRight f
 
 -- ---- values
 
+-- the number before number i of a row; before the first comes 0
+abbrev pub previous : (ℕ → ℕ) → ℕ → ℕ
+previous x zero = 0
+previous x (suc i) = x i
+
+-- a number is low to high and, where numbers are to rise, greater than the one before it
+abbrev pub rightAfter : ℕ → ℕ → Bool → ℕ → ℕ → Bool
+rightAfter low high rising before x = (not rising || ltb before x) && within low high x
+
+-- the same of number i of a row
+abbrev pub numberRight : ℕ → ℕ → Bool → (ℕ → ℕ) → ℕ → Bool
+numberRight low high rising x i = rightAfter low high rising (previous x i) (x i)
+
+-- the first of n fields from an offset on that is not right
+unfoldable pub wrongField : List ℕ → ℕ → ℕ → ℕ → ℕ → Bool → Option ℕ
+wrongField f at n low high rising =
+    offset (λ i. at + 2 * i) (lowest n (λ i. not (numberRight low high rising (λ k. field f (at + 2 * k)) i)))
+
 -- the first of n fields from an offset on that is not low to high
-unfoldable pub outside : List ℕ → ℕ → ℕ → ℕ → ℕ → Option ℕ
-outside f at n low high = offset (λ i. at + 2 * i) (lowest n (λ i. not (within low high (field f (at + 2 * i)))))
+abbrev pub outside : List ℕ → ℕ → ℕ → ℕ → ℕ → Option ℕ
+outside f at n low high = wrongField f at n low high false
 
 -- 10: class not 1 to 8 | that class
 unfoldable pub line10 : List ℕ → Option ℕ
@@ -106,17 +124,19 @@ line12 f = outside f (start f 2) (seatsIn f * windowsIn f) 0 4095
 
 -- ---- parts that may be missing
 
--- entry e as a body of n fields, each low to high: its length is not 2 × n | that length field; or a field is not low to high | that value
-unfoldable pub wrongFields : List ℕ → ℕ → ℕ → ℕ → ℕ → Option ℕ
-wrongFields f n low high e = orElse (when (not (eqb (size f e) (2 * n))) (sizeAt e)) (outside f (start f e) n low high)
+-- entry e as a body of n fields, each low to high, rising or not: its length is not 2 × n | that length field; or a field is not right |
+-- that value
+unfoldable pub wrongFields : List ℕ → ℕ → ℕ → ℕ → Bool → ℕ → Option ℕ
+wrongFields f n low high rising e =
+    orElse (when (not (eqb (size f e) (2 * n))) (sizeAt e)) (wrongField f (start f e) n low high rising)
 
 -- 18: first seat: length not 2, or not a seat of the book | that length field, or that value
 unfoldable pub line18 : List ℕ → Option ℕ
-line18 f = andThen (entryOf f 5) (wrongFields f 1 1 (seatsIn f))
+line18 f = andThen (entryOf f 5) (wrongFields f 1 1 (seatsIn f) false)
 
 -- 19: balances: length not 2 × seats, or a balance above 50,000 | that length field, or that value
 unfoldable pub line19 : List ℕ → Option ℕ
-line19 f = andThen (entryOf f 6) (wrongFields f (seatsIn f) 0 50000)
+line19 f = andThen (entryOf f 6) (wrongFields f (seatsIn f) 0 50000 false)
 
 -- ---- marker only
 

@@ -6,7 +6,7 @@ ghost use mathlib.Core.List.{[], _∷_};
 ghost use Prim.Native.Nat.{_+_, _<_};
 ghost use Rattle.model.specs.Lowest.{when};
 ghost use Rattle.sheet.specs.Sheets.{gridOf};
-ghost use Rattle.dayfile.specs.Table.{within, line, firstOf};
+ghost use Rattle.dayfile.specs.Table.{within, rightAfter, line, firstOf};
 ghost use Rattle.dayfile.specs.Memory.{found, refused};
 use sheet::Caps;
 use sheet::Sheet;
@@ -84,6 +84,13 @@ pub fn within(low: usize, high: usize, x: usize) -> bool
     ensures { λ r. ⌜ r ≡ within low high x ⌝ }
 {
     low <= x && x <= high
+}
+
+// Low to high and, where numbers are to rise, greater than the one before.
+pub fn right_after(low: usize, high: usize, rising: bool, before: usize, x: usize) -> bool
+    ensures { λ r. ⌜ r ≡ rightAfter low high rising before x ⌝ }
+{
+    (!rising | (before < x)) & within(low, high, x)
 }
 
 // An offset, where a number is not low to high.

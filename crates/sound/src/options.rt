@@ -12,26 +12,27 @@ use fields::entry_of;
 use fields::seats;
 use fields::size;
 use fields::start;
-use values::outside;
+use values::wrong_field;
 
-// Entry e as a body of n fields: its length is not 2 × n, at that length; or a field is not low to high, at that value.
-fn wrong_fields(file: &[u8], e: usize, n: usize, low: usize, high: usize) -> Found
+// Entry e as a body of n fields, each low to high, rising or not: its length is not 2 × n, at that length; or a field is not right, at that
+// value.
+fn wrong_fields(file: &[u8], e: usize, n: usize, low: usize, high: usize, rising: bool) -> Found
     requires { ⌜ (e < 65536) × (n < 32768) ⌝ }
-    ensures { λ r. ⌜ found r ≡ wrongFields (now (file .entry)) n low high e ⌝ }
+    ensures { λ r. ⌜ found r ≡ wrongFields (now (file .entry)) n low high rising e ⌝ }
 {
     if size(file, e) != 2 * n {
         return Found::At(6 + 6 * e);
     }
-    outside(file, start(file, e), n, low, high)
+    wrong_field(file, start(file, e), n, low, high, rising)
 }
 
 // The same of the body of a kind that may be missing.
-fn wrong_body(file: &[u8], kind: usize, n: usize, low: usize, high: usize) -> Found
+fn wrong_body(file: &[u8], kind: usize, n: usize, low: usize, high: usize, rising: bool) -> Found
     requires { ⌜ n < 32768 ⌝ }
-    ensures { λ r. ⌜ found r ≡ andThen (entryOf (now (file .entry)) kind) (wrongFields (now (file .entry)) n low high) ⌝ }
+    ensures { λ r. ⌜ found r ≡ andThen (entryOf (now (file .entry)) kind) (wrongFields (now (file .entry)) n low high rising) ⌝ }
 {
     if let Found::At(e) = entry_of(file, kind) {
-        return wrong_fields(file, e, n, low, high);
+        return wrong_fields(file, e, n, low, high, rising);
     }
     Found::Nothing
 }
@@ -43,8 +44,8 @@ pub fn check_options(file: &[u8]) -> Check
     let n = seats(file);
     first_of(
         18,
-        wrong_body(file, 5, 1, 1, n),
-        wrong_body(file, 6, n, 0, 50000),
+        wrong_body(file, 5, 1, 1, n, false),
+        wrong_body(file, 6, n, 0, 50000, false),
         Found::Nothing,
     )
 }

@@ -12,7 +12,7 @@ use lib.ListN.{length, getD, length-append, List·getD-append}
 use lib.Seq.{getD-append-add}
 use Rattle.model.specs.Lowest.{lowest}
 use Rattle.model.proofs.Lowest.{Lowest, Fails, lowest-fails, lowest-is, lowest-some, lowest-none}
-use Rattle.dayfile.specs.Table.{within, offset}
+use Rattle.dayfile.specs.Table.{within, offset, numberRight}
 use Rattle.model.specs.Book.{Grid, Shaped}
 use Rattle.sheet.specs.Sheets.{noRow, gridOf}
 use Rattle.sheet.specs.declared.Sheet.{Sheet}
@@ -21,29 +21,31 @@ use Rattle.dayfile.specs.File.{flat}
 use Rattle.dayfile.specs.Memory.{sized, sizedGrid}
 use Rattle.dayfile.proofs.Tables.{sized-length, sized-at}
 use Rattle.dayfile.proofs.Grids.{sized-flat-length, sized-flat-none, sized-flat-more}
-use Rattle.dayfile.proofs.Search.{offset-none, offset-some, same-search}
-use Rattle.writer.specs.Values.{outsideIn}
+use Rattle.dayfile.proofs.Search.{offset-none, offset-some, wrong-same}
+use Rattle.writer.specs.Values.{wrongIn, outsideIn}
 
 lt-or-le : (a b : ℕ) → (a < b) ⊎ (b ≤ a)
 lt-or-le a b = elim (decLt a b) [ yes h ↦ inl h | no h ↦ inr (omega arith) ]
 
-module _ (low high : ℕ) where
-  abbrev pub out : List ℕ → ℕ → Bool
-  out xs i = not (within low high (getD xs i 0))
-
+module _ (low high : ℕ) (rising : Bool) where
   -- the first n numbers
   pub sized-search : (n : ℕ) (xs : List ℕ) (at : ℕ)
-      → offset (λ i. at + 2 * i) (lowest n (out xs)) ≡ outsideIn (sized n xs) at low high
-  unfolding outsideIn
+      → offset (λ i. at + 2 * i) (lowest n (λ i. not (numberRight low high rising (λ k. getD xs k 0) i)))
+      ≡ wrongIn (sized n xs) at low high rising
+  unfolding wrongIn
   sized-search n xs at =
-      let alike : (i : ℕ) → i < n → out xs i ≡ out (sized n xs) i =
-      λ i h. ap (λ (x : ℕ). not (within low high x)) (sym (sized-at n xs i h)) in
+      let wrong : List ℕ → ℕ → Bool = λ ys i. not (numberRight low high rising (λ k. getD ys k 0) i) in
       ap (offset (λ i. at + 2 * i))
-      (same-search (out xs) (out (sized n xs)) n alike ∙ ap (λ (k : ℕ). lowest k (out (sized n xs))) (sym (sized-length n xs)))
+      (wrong-same low high rising (λ k. getD xs k 0) (λ k. getD (sized n xs) k 0) n (λ k h. sym (sized-at n xs k h))
+      ∙ ap (λ (k : ℕ). lowest k (wrong (sized n xs))) (sym (sized-length n xs)))
 
-  pub outside-nil : (at : ℕ) → outsideIn [] at low high ≡ none
-  unfolding outsideIn lowest
-  outside-nil at = refl
+  pub wrong-nil : (at : ℕ) → wrongIn [] at low high rising ≡ none
+  unfolding wrongIn lowest
+  wrong-nil at = refl
+
+module _ (low high : ℕ) where
+  abbrev out : List ℕ → ℕ → Bool
+  out xs i = not (within low high (getD xs i 0))
 
   -- ---- two lists, one behind the other
 
@@ -67,12 +69,12 @@ module _ (low high : ℕ) where
 
   -- none in a list whose first field stands at `at`
   fails : (at : ℕ) (a : List ℕ) → outsideIn a at low high ≡ none → Fails (length a) (out a)
-  unfolding outsideIn
+  unfolding wrongIn
   fails at a e = lowest-none (length a) (out a) (offset-none (λ i. at + 2 * i) (lowest (length a) (out a)) e)
 
   pub outside-none-more : (at : ℕ) (a b : List ℕ) → outsideIn a at low high ≡ none → outsideIn b (at + 2 * length a) low high ≡ none
       → outsideIn (a ++ b) at low high ≡ none
-  unfolding outsideIn
+  unfolding wrongIn
   outside-none-more at a b p q =
       let all = clear a b (length b) (fails at a p) (fails (at + 2 * length a) b q) in
       ap (offset (λ i. at + 2 * i))
@@ -80,7 +82,7 @@ module _ (low high : ℕ) where
 
   pub outside-some-more : (at : ℕ) (a b d : List ℕ) (p : ℕ) → outsideIn a at low high ≡ none
       → outsideIn b (at + 2 * length a) low high ≡ some p → outsideIn ((a ++ b) ++ d) at low high ≡ some p
-  unfolding outsideIn
+  unfolding wrongIn
   outside-some-more at a b d p h k =
       let o = offset-some (λ i. at + 2 * length a + 2 * i) (lowest (length b) (out b)) p k in
       let i : ℕ = o .0 in
@@ -140,7 +142,7 @@ module _ (low high at m : ℕ) (g : Grid) where
   row-at i = ap (λ (k : ℕ). outsideIn (sized m (getD g i [])) (at + 2 * k) low high) (sized-flat-length i m g)
 
   pub rows-first : rows 0 ≡ none
-  rows-first = ap (λ (xs : List ℕ). outsideIn xs at low high) (sym (sized-flat-none m g)) ∙ outside-nil low high at
+  rows-first = ap (λ (xs : List ℕ). outsideIn xs at low high) (sym (sized-flat-none m g)) ∙ wrong-nil low high false at
 
   pub rows-more : (i : ℕ) → rows i ≡ none → row i ≡ none → rows (i + 1) ≡ none
   rows-more i h k =

@@ -16,8 +16,8 @@ use Rattle.sheet.specs.Sheets.{gridOf}
 use Rattle.sheet.specs.declared.Sheet.{Sheet}
 use Rattle.dayfile.specs.Layout.{field, entriesIn, contentsEnd, start, size, sizeAt, seatsIn, windowsIn, entryOf}
 use Rattle.dayfile.specs.File.{Part, assemble, flat, flatIf, oneIf, partsOf, fileOf}
-use Rattle.dayfile.specs.Table.{Line, Refusal, line, refuse, firstOf, within, offset, sizeRight, outside, wrongFields}
-use Rattle.dayfile.specs.Table.{line7, line8, line10, line11, line12, line16, line18, line19}
+use Rattle.dayfile.specs.Table.{Line, Refusal, line, refuse, firstOf, within, offset, sizeRight, numberRight, wrongField, outside}
+use Rattle.dayfile.specs.Table.{wrongFields, line7, line8, line10, line11, line12, line16, line18, line19}
 use Rattle.dayfile.specs.Table.{valueLines, optionLines, bufferLines, writeLines}
 use Rattle.dayfile.specs.Memory.{sized, sizedGrid, bookIn, sheetIn, fileWith, fileIn, front, Writes}
 use Rattle.dayfile.specs.declared.Book as Memory
@@ -26,7 +26,7 @@ use Rattle.dayfile.specs.declared.Written as Written
 use Rattle.dayfile.proofs.Tests.{within-high, yes-when, no-when}
 use Rattle.dayfile.proofs.Lines.{stop, on, stop-in, on-after, none-holds, none-parts}
 use Rattle.dayfile.proofs.Answers.{writes-refused, writes-whole}
-use Rattle.dayfile.proofs.Search.{same-search}
+use Rattle.dayfile.proofs.Search.{wrong-same}
 use Rattle.dayfile.proofs.Tables.{sized-length, sized-one}
 use Rattle.dayfile.proofs.Fields.{fields-at}
 use Rattle.dayfile.proofs.Grids.{sized-flat-length}
@@ -38,8 +38,8 @@ use Rattle.dayfile.proofs.Held.{seats-in}
 use Rattle.store.specs.Stores.{sizeIf, fieldsIf, entries, slotsOf, slotsIn}
 use Rattle.store.proofs.Storing.{list-if}
 use Rattle.store.proofs.Files.{partsWith, parts-count}
-use Rattle.writer.specs.Values.{outsideIn}
-use Rattle.writer.proofs.Bounds.{outside-nil}
+use Rattle.writer.specs.Values.{wrongIn, outsideIn}
+use Rattle.writer.proofs.Bounds.{wrong-nil}
 
 -- ---- counts and sizes
 
@@ -72,28 +72,27 @@ module _ (first : ℕ) (ps : List Part) (told : entriesIn first ≡ length ps) w
   abbrev file : List ℕ
   file = assemble first ps
 
-  body-search : (e : ℕ) → e < length ps → (n at low high : ℕ) → n ≡ length (nth ps e .body) → at ≡ contentsEnd (length ps) + 2 * before ps e
-      → outside (assemble first ps) (start (assemble first ps) e) n low high ≡ outsideIn (nth ps e .body) at low high
-  unfolding outside outsideIn
-  body-search e h n at low high q p =
+  body-search : (e : ℕ) → e < length ps → (n at low high : ℕ) (rising : Bool) → n ≡ length (nth ps e .body)
+      → at ≡ contentsEnd (length ps) + 2 * before ps e
+      → wrongField (assemble first ps) (start (assemble first ps) e) n low high rising ≡ wrongIn (nth ps e .body) at low high rising
+  unfolding wrongField wrongIn
+  body-search e h n at low high rising q p =
       let xs : List ℕ = nth ps e .body in
       let s : ℕ = start file e in
       let st : s ≡ at = start-is first ps told e h ∙ sym p in
-      let bad : ℕ → Bool = λ i. not (within low high (field file (s + 2 * i))) in
+      let bad : ℕ → Bool = λ i. not (numberRight low high rising (λ k. field file (s + 2 * k)) i) in
       let here : (i : ℕ) → i < length xs → field file (s + 2 * i) ≡ getD xs i 0 =
       λ i l. sym (fields-at file s (length xs) i l) ∙ ap (λ (ys : List ℕ). getD ys i 0) (body-is first ps told e h) in
       ap (λ (k : ℕ). offset (λ i. k + 2 * i) (lowest n bad)) st
       ∙ ap (offset (λ i. at + 2 * i))
-      (ap (λ (k : ℕ). lowest k bad) q
-      ∙ same-search bad (λ i. not (within low high (getD xs i 0))) (length xs)
-      (λ i l. ap (λ (x : ℕ). not (within low high x)) (here i l)))
+      (ap (λ (k : ℕ). lowest k bad) q ∙ wrong-same low high rising (λ k. field file (s + 2 * k)) (λ k. getD xs k 0) (length xs) here)
 
 -- ---- the body of a kind that may be missing
 
-module _ (ps : List Part) (k n low high at : ℕ) (here : at ≡ contentsEnd (length ps) + 2 * k) where
+module _ (ps : List Part) (k n low high : ℕ) (rising : Bool) (at : ℕ) (here : at ≡ contentsEnd (length ps) + 2 * k) where
   -- its numbers alone can be wrong
   body-line : (r : Option ℕ) (o : Option (List ℕ)) → BodyAt ps k r o → IfThere (λ xs. length xs ≡ n) o
-      → andThen r (wrongFields (assemble (length ps) ps) n low high) ≡ andThen o (λ xs. outsideIn xs at low high)
+      → andThen r (wrongFields (assemble (length ps) ps) n low high rising) ≡ andThen o (λ xs. wrongIn xs at low high rising)
   unfolding wrongFields
   body-line none none h l = refl
   body-line none (some xs) h l = absurd h
@@ -102,19 +101,20 @@ module _ (ps : List Part) (k n low high at : ℕ) (here : at ≡ contentsEnd (le
       let f : List ℕ = assemble (length ps) ps in
       let body = ap length (h .1) ∙ l in
       let long : size f e ≡ 2 * n = size-is (length ps) ps refl e (h .0) ∙ ap (λ (i : ℕ). 2 * i) body in
-      ap (λ (x : Bool). orElse (when (not x) (sizeAt e)) (outside f (start f e) n low high)) (eq-eqb (size f e) (2 * n) long)
-      ∙ body-search (length ps) ps refl e (h .0) n at low high (sym body)
+      ap (λ (x : Bool). orElse (when (not x) (sizeAt e)) (wrongField f (start f e) n low high rising)) (eq-eqb (size f e) (2 * n) long)
+      ∙ body-search (length ps) ps refl e (h .0) n at low high rising (sym body)
       (here ∙ ap (λ (i : ℕ). contentsEnd (length ps) + 2 * i) (sym (h .2)))
-      ∙ ap (λ (ys : List ℕ). outsideIn ys at low high) (h .1)
+      ∙ ap (λ (ys : List ℕ). wrongIn ys at low high rising) (h .1)
 
 -- one that is missing has no numbers
-if-there : (t : Bool) (n : ℕ) (src : List ℕ) (at low high : ℕ)
-    → outsideIn (sized (sizeIf t n) src) at low high ≡ andThen (when t (sized n src)) (λ xs. outsideIn xs at low high)
-if-there t n src at low high = ap (λ (xs : List ℕ). outsideIn xs at low high) (list-if t n src) ∙ go t
+if-there : (t : Bool) (n : ℕ) (src : List ℕ) (at low high : ℕ) (rising : Bool)
+    → wrongIn (sized (sizeIf t n) src) at low high rising ≡ andThen (when t (sized n src)) (λ xs. wrongIn xs at low high rising)
+if-there t n src at low high rising = ap (λ (xs : List ℕ). wrongIn xs at low high rising) (list-if t n src) ∙ go t
   where
-    go : (u : Bool) → outsideIn (fieldsIf u (sized n src)) at low high ≡ andThen (when u (sized n src)) (λ xs. outsideIn xs at low high)
+    go : (u : Bool) → wrongIn (fieldsIf u (sized n src)) at low high rising
+        ≡ andThen (when u (sized n src)) (λ xs. wrongIn xs at low high rising)
     go true = refl
-    go false = outside-nil low high at
+    go false = wrong-nil low high rising at
 
 -- ---- a day
 
@@ -200,7 +200,7 @@ module _ (d : Day) where
   search-body e h xs k at low high q l p =
       let c = parts-count (d .book) (gridOf (d .caps)) (d .«has_sheet») (gridOf (d .sheet)) in
       let t = three in
-      body-search (length ps) ps refl e (omega (arith, t .many)) k at low high (l ∙ ap length (sym q)) (omega arith)
+      body-search (length ps) ps refl e (omega (arith, t .many)) k at low high false (l ∙ ap length (sym q)) (omega arith)
       ∙ ap (λ (ys : List ℕ). outsideIn ys at low high) q
 
   -- the first body starts at `at`
@@ -294,11 +294,11 @@ module _ (m : Memory.Book) (caps : Grid) (t : Bool) (sheet : Grid) where
   first-told {at} {k} e q =
       let p : ℕ = at + 2 * k in
       let f : List ℕ = fileWith m caps t sheet in
-      if-there (m .«has_first») 1 (m .first ∷ []) p 1 (m .seats)
+      if-there (m .«has_first») 1 (m .first ∷ []) p 1 (m .seats) false
       ∙ ap (λ (o : Option (List ℕ)). andThen o (λ xs. outsideIn xs p 1 (m .seats))) (one-there (m .«has_first»))
-      ∙ sym (body-line (partsOf (bookIn m caps) (sheetIn m t sheet)) _ 1 1 (m .seats) p (first-starts e q) (entryOf f 5) _
+      ∙ sym (body-line (partsOf (bookIn m caps) (sheetIn m t sheet)) _ 1 1 (m .seats) false p (first-starts e q) (entryOf f 5) _
       (first-at (bookIn m caps) (sheetIn m t sheet)) (one-long (when (m .«has_first») (m .first))))
-      ∙ ap (λ (n : ℕ). andThen (entryOf f 5) (wrongFields f 1 1 n))
+      ∙ ap (λ (n : ℕ). andThen (entryOf f 5) (wrongFields f 1 1 n false))
       (sym (written-seats (bookIn m caps) (sheetIn m t sheet) ∙ seats-in m caps))
 
   -- the balances are one number for each seat, behind the first seat
@@ -321,10 +321,10 @@ module _ (m : Memory.Book) (caps : Grid) (t : Bool) (sheet : Grid) where
       let f : List ℕ = fileWith m caps t sheet in
       let b = first-starts e q in
       let l = one-size (m .«has_first») in
-      if-there (m .«has_balances») (m .seats) (m .balances) p 0 50000
-      ∙ sym (body-line (partsOf (bookIn m caps) (sheetIn m t sheet)) _ (m .seats) 0 50000 p (omega arith) (entryOf f 6) _
+      if-there (m .«has_balances») (m .seats) (m .balances) p 0 50000 false
+      ∙ sym (body-line (partsOf (bookIn m caps) (sheetIn m t sheet)) _ (m .seats) 0 50000 false p (omega arith) (entryOf f 6) _
       (balances-at (bookIn m caps) (sheetIn m t sheet)) (each-long (m .«has_balances»)))
-      ∙ ap (λ (n : ℕ). andThen (entryOf f 6) (wrongFields f n 0 50000))
+      ∙ ap (λ (n : ℕ). andThen (entryOf f 6) (wrongFields f n 0 50000 false))
       (sym (written-seats (bookIn m caps) (sheetIn m t sheet) ∙ seats-in m caps))
 
 -- ---- what the writer answers, by where its refusal comes from

@@ -11,32 +11,44 @@ ghost use Rattle.dayfile.specs.Table.{line, line7, line8, valueLines, optionLin
 ghost use Rattle.dayfile.specs.Memory.{found, refused, sized, sizedGrid, fileWith, fileIn};
 ghost use Rattle.dayfile.specs.declared.Day.{Day};
 ghost use Rattle.store.specs.Stores.{sizeIf, entries, slotsOf, slotsIn};
-ghost use Rattle.writer.specs.Values.{outsideIn};
+ghost use Rattle.writer.specs.Values.{wrongIn, outsideIn};
 use dayfile::Book;
 use dayfile::Check;
 use dayfile::Day;
 use dayfile::Found;
 use dayfile::first_of;
 use dayfile::outside_at;
-use dayfile::within;
+use dayfile::right_after;
 use sheet::Sheet;
 use store::contents::first_body;
 use store::numbers::number;
 use store::numbers::size_if;
 
-// The first of n numbers that is not low to high, where the first one's field is at `at`.
+// The first of n numbers that is not low to high or, where they are to rise, not greater than the one before; the first one's field is at
+// `at`.
+fn wrong_in(src: &[u16], n: usize, at: usize, low: usize, high: usize, rising: bool) -> Found
+    requires { ⌜ (at < 65536) × (n < 65536) ⌝ }
+    ensures { λ r. ⌜ found r ≡ wrongIn (sized n (now (src .entry))) at low high rising ⌝ }
+{
+    let mut before = 0;
+    let mut i = 0;
+    while i < n {
+        let x = number(src, i);
+        if !right_after(low, high, rising, before, x) {
+            return Found::At(at + 2 * i);
+        }
+        before = x;
+        i += 1;
+    }
+    Found::Nothing
+}
+
+// The first of n numbers that is not low to high.
 fn outside_in(src: &[u16], n: usize, at: usize, low: usize, high: usize) -> Found
     requires { ⌜ (at < 65536) × (n < 65536) ⌝ }
     ensures { λ r. ⌜ found r ≡ outsideIn (sized n (now (src .entry))) at low high ⌝ }
 {
-    let mut i = 0;
-    while i < n {
-        if !within(low, high, number(src, i)) {
-            return Found::At(at + 2 * i);
-        }
-        i += 1;
-    }
-    Found::Nothing
+    wrong_in(src, n, at, low, high, false)
 }
 
 // The same of n rows of m cells, up to `high`.

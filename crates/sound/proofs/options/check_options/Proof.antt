@@ -1,3 +1,4 @@
+use mathlib.Core.Bool.{false}
 use mathlib.Core.Option.{none}
 use mathlib.Core.Path.{refl, _∙_, ap}
 use Prim.Native.Nat.{ℕ}
@@ -18,8 +19,8 @@ returns c =
     let n = v .before .seats .ensures .0 in
     let f = now (v .before .before .before .args .file) in
     three-as 18 {c = none} (c .first-of .ensures)
-    (v .wrong-body .ensures ∙ ap (λ (k : ℕ). andThen (entryOf f 5) (wrongFields f 1 1 k)) n)
-    (w .wrong-body2 .ensures ∙ ap (λ (k : ℕ). andThen (entryOf f 6) (wrongFields f k 0 50000)) n) refl
+    (v .wrong-body .ensures ∙ ap (λ (k : ℕ). andThen (entryOf f 5) (wrongFields f 1 1 k false)) n)
+    (w .wrong-body2 .ensures ∙ ap (λ (k : ℕ). andThen (entryOf f 6) (wrongFields f k 0 50000 false)) n) refl
 
 pub check-options-spec : {M : Type 1} → statement M
 check-options-spec =

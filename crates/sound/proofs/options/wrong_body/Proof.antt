@@ -19,13 +19,14 @@ returns c =
     let e = c .before .before in
     let here = at-line (e .before .before .entry-of .ensures .0) (e .e .given .1) in
     let a = e .before .before .before .before .args in
-    c .wrong-fields .ensures ∙ ap (λ (o : Option ℕ). andThen o (wrongFields (now (a .file)) (a .n) (a .low) (a .high))) (sym here)
+    c .wrong-fields .ensures
+    ∙ ap (λ (o : Option ℕ). andThen o (wrongFields (now (a .file)) (a .n) (a .low) (a .high) (a .rising))) (sym here)
 
 returns-2 : tie.Need-returns-2
 returns-2 c =
     let missing = no-line (c .before .before .entry-of .ensures .0) (c .enum-told .given .1) in
     let a = c .before .before .before .before .args in
-    ap (λ (o : Option ℕ). andThen o (wrongFields (now (a .file)) (a .n) (a .low) (a .high))) (sym missing)
+    ap (λ (o : Option ℕ). andThen o (wrongFields (now (a .file)) (a .n) (a .low) (a .high) (a .rising))) (sym missing)
 
 pub wrong-body-spec : {M : Type 1} → statement M
 wrong-body-spec =
