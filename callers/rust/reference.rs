@@ -43,11 +43,14 @@ pub const MOST_CREDITS: u16 = 4095;
 /// The highest balance.
 pub const MOST_BALANCE: u16 = 50_000;
 
-/// The weight of each class, class 1 first.
+/// The greatest weight.
+pub const MOST_WEIGHT: u16 = 1000;
+
+/// The weight of each class, class 1 first, in a file that has no weights of its own.
 pub const WEIGHTS: [u16; 8] = [1, 2, 3, 5, 8, 12, 20, 40];
 
-/// The longest file: 32 seats, 24 windows, a sheet, a first seat and balances.
-pub const FILE_LENGTH: usize = 3288;
+/// The longest file: 32 seats, 24 windows, a sheet, a first seat, balances and weights.
+pub const FILE_LENGTH: usize = 3310;
 
 /// The marker's output buffer: 31 moves of three bytes.
 pub const MOVES_LENGTH: usize = 93;
@@ -70,6 +73,8 @@ pub struct Book {
     pub first: Option<u16>,
     /// Per seat its balance, the credits received on earlier days; zeros if there are none.
     pub balances: Option<[u16; SEATS]>,
+    /// The weight of each class, class 1 first; those of paper 01 if there are none.
+    pub weights: Option<[u16; 8]>,
 }
 
 impl Book {
@@ -78,7 +83,7 @@ impl Book {
         let mut classes = [0; SEATS];
         classes[..seats].fill(1);
         let (supplies, caps) = ([0; WINDOWS], [[0; WINDOWS]; SEATS]);
-        Book { seats, windows, classes, supplies, caps, first: None, balances: None }
+        Book { seats, windows, classes, supplies, caps, first: None, balances: None, weights: None }
     }
 
     /// How many seats come before this one in today's order, which runs from the first seat up to the last and on from 1.
@@ -91,6 +96,16 @@ impl Book {
     /// Per seat the balance that it carries over; zeros where the book has none.
     pub fn carried(&self) -> [u16; SEATS] {
         self.balances.unwrap_or([0; SEATS])
+    }
+
+    /// The weights in force, by class: the book's own, or paper 01's where it has none.
+    pub fn table(&self) -> [u16; 8] {
+        self.weights.unwrap_or(WEIGHTS)
+    }
+
+    /// The weight of a seat, whose class must be one of the eight.
+    pub fn weight(&self, seat: usize) -> u16 {
+        self.table()[self.classes[seat] as usize - 1]
     }
 }
 

@@ -28,6 +28,15 @@ impl Rng {
         least + self.below(most - least + 1)
     }
 
+    /// Eight numbers from `least` to `most`, both included, each greater than the one before.
+    pub fn rising(&mut self, least: usize, most: usize) -> [u16; 8] {
+        let mut numbers = [0; 8].map(|_| self.between(least, most - 7) as u16);
+        numbers.sort();
+        // Equal ones come apart.
+        (0..).zip(&mut numbers).for_each(|(place, number)| *number += place);
+        numbers
+    }
+
     /// True once in `n` times.
     pub fn once_in(&mut self, n: usize) -> bool {
         self.below(n) == 0

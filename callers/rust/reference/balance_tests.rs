@@ -131,18 +131,6 @@ fn balances_of_zeros_are_another_file_of_the_same_meaning() {
 }
 
 #[test]
-fn the_longest_file() {
-    let mut large = Book { classes: [8; SEATS], ..Book::empty(32, 24) };
-    large.caps = [[MOST_CREDITS; WINDOWS]; SEATS];
-    large.first = Some(32);
-    large.balances = Some([MOST_BALANCE; SEATS]);
-    let sheet = [[u16::MAX; WINDOWS]; SEATS];
-    let file = file_of(&large, Some(&sheet));
-    assert_eq!(file.len(), FILE_LENGTH);
-    assert_eq!(read(&file), Ok((large, Some(sheet))));
-}
-
-#[test]
 fn balances_turned_away_and_taken() {
     let sheet = Some(&[[0; WINDOWS]; SEATS]);
     // The body moves with each part before it.

@@ -1,9 +1,10 @@
-//! The better of two sheets of one book (paper 02, E1), which E2 lets have different first seats, and E5 no different balances.
+//! The better of two sheets of one book (paper 02, E1), which E2 lets have different first seats, but E5 no different
+//! balances and E6 no different weights.
 
 use std::cmp::Ordering;
 
 use super::marker::handed_in;
-use super::{read, refuse_if, Book, Layout, Refusal, Sheet, WEIGHTS};
+use super::{read, refuse_if, Book, Layout, Refusal, Sheet};
 
 /// The file that is chosen, 1 or 2, and where in it the sheet body lies.
 #[derive(Clone, Copy, Debug, PartialEq, Eq)]
@@ -44,8 +45,8 @@ pub fn choose(
     Ok(Better { file, start: Layout::of(book, true).sheet, length: 2 * book.seats * book.windows })
 }
 
-/// Whether classes, supplies, caps and balances in force are the same. The first seat decides ties of settled totals and no list, so it may
-/// differ.
+/// Whether classes, supplies, caps, and balances and weights in force are the same, the weights of unused classes too. The first seat
+/// decides ties of settled totals and no list, so it may differ.
 fn same_numbers(book: &Book, other: &Book) -> bool {
     book.seats == other.seats
         && book.windows == other.windows
@@ -53,14 +54,14 @@ fn same_numbers(book: &Book, other: &Book) -> bool {
         && book.supplies == other.supplies
         && book.caps == other.caps
         && book.carried() == other.carried()
+        && book.table() == other.table()
 }
 
 /// All levels, lowest first.
 fn list(book: &Book, sheet: &Sheet) -> Vec<Level> {
     let balances = book.carried();
     let total = |seat: usize| sheet[seat][..book.windows].iter().map(|&cell| cell as u32).sum::<u32>();
-    let weight = |seat: usize| WEIGHTS[book.classes[seat] as usize - 1] as u32;
-    let level = |seat: usize| (balances[seat] as u32 + total(seat), weight(seat));
+    let level = |seat: usize| (balances[seat] as u32 + total(seat), book.weight(seat) as u32);
     let mut levels: Vec<Level> = (0..book.seats).map(level).collect();
     levels.sort_by(compare);
     levels

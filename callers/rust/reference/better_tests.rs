@@ -2,6 +2,7 @@
 
 use super::balance_tests::carrying;
 use super::first_tests::first_is;
+use super::weight_tests::{weighing, HIGHEST, LOWEST};
 use super::*;
 
 const NO_CREDITS: Option<&Sheet> = Some(&[[0; WINDOWS]; SEATS]);
@@ -72,16 +73,18 @@ fn levels_are_compared_exactly_and_from_the_lowest() {
 }
 
 /// A file for each line that a single file can meet, with the line's number and the offset of the refusal.
-fn refused_files() -> [(u32, Vec<u8>, usize); 17] {
+fn refused_files() -> [(u32, Vec<u8>, usize); 18] {
     let with_sheet = |rows: &[&[u16]]| file_of(&k8(), Some(&grid(rows)));
     // The sheet is above the caps too, which comes later.
     let mut no_seat = file_of(&first_is(k8(), 1), Some(&[[9; WINDOWS]; SEATS]));
     no_seat[66] = 4;
     let mut too_high = file_of(&carrying(k8(), &[0, 0, 0]), Some(&[[9; WINDOWS]; SEATS]));
     too_high[70..].copy_from_slice(&50_001u16.to_le_bytes());
+    let mut not_rising = file_of(&weighing(k8(), LOWEST), Some(&[[9; WINDOWS]; SEATS]));
+    not_rising[68] = 1;
     [
         (1, vec![3], 1),
-        (2, k8_with(0, 7), 0),
+        (2, k8_with(0, 8), 0),
         (3, k8_with(0, 4)[..25].to_vec(), 25),
         (4, k8_with(8, 3), 8),
         (5, k8_with(4, 22), 4),
@@ -94,6 +97,7 @@ fn refused_files() -> [(u32, Vec<u8>, usize); 17] {
         (12, k8_with(36, 4096), 36),
         (18, no_seat, 66),
         (19, too_high, 70),
+        (20, not_rising, 68),
         (13, file_of(&k8(), None), 0),
         (14, with_sheet(&[&[0, 0], &[1, 0], &[1, 4]]), 56),
         (15, with_sheet(&[&[1, 0], &[1, 2], &[0, 3]]), 32),
@@ -171,30 +175,87 @@ fn levels_are_of_balance_plus_total() {
     assert_lower(&carrying(k5(), &[0, 4]), &[&[4], &[0]], &[&[3], &[1]]);
 }
 
+/// No two of these files are of one book.
+fn assert_all_differ(files: &[Vec<u8>]) {
+    for (place, one) in files.iter().enumerate() {
+        for (other_place, other) in files.iter().enumerate() {
+            let expected = if place == other_place { Ok(1) } else { Err((17, 0, 0)) };
+            assert_eq!(chosen(one, other), expected, "{place} and {other_place}");
+        }
+    }
+}
+
 #[test]
 fn other_balances_make_another_book() {
     let file = |balances: &[u16]| file_of(&carrying(k8(), balances), NO_CREDITS);
     let none = file_of(&k8(), NO_CREDITS);
     let all =
         [none, file(&[1, 2, 3]), file(&[0, 2, 3]), file(&[1, 0, 3]), file(&[1, 2, 0]), file(&[0, 0, MOST_BALANCE])];
-    for (place, one) in all.iter().enumerate() {
-        for (other_place, other) in all.iter().enumerate() {
-            let expected = if place == other_place { Ok(1) } else { Err((17, 0, 0)) };
-            assert_eq!(chosen(one, other), expected, "{place} and {other_place}");
-        }
-    }
+    assert_all_differ(&all);
     // Another first seat beside the same balances makes none.
     assert_eq!(chosen(&all[1], &file_of(&first_is(carrying(k8(), &[1, 2, 3]), 2), NO_CREDITS)), Ok(1));
 }
 
-#[test]
-fn no_balances_and_zeros_are_of_one_book() {
+/// K8 with one entry more that says nothing new is of one book with K8. The entry moves the sheet body by six bytes.
+fn assert_one_book(same: Book) {
     let [low, high]: [Sheet; 2] = [[0, 3], [1, 2]].map(|[a, b]| grid(&[&[0, 0], &[1, a], &[0, b]]));
-    let zeros = carrying(k8(), &[0, 0, 0]);
-    for (one, other, start) in [(k8(), zeros.clone(), 54), (zeros, k8(), 48)] {
+    for (one, other, start) in [(k8(), same.clone(), 54), (same, k8(), 48)] {
         let (spoilt, fair) = (file_of(&one, Some(&low)), file_of(&other, Some(&high)));
         assert_eq!(better(&spoilt, &fair), Ok(Better { file: 2, start, length: 12 }));
         assert_eq!(better(&fair, &spoilt), Ok(Better { file: 1, start, length: 12 }));
         assert_eq!(fair[start..start + 12], [0, 0, 0, 0, 1, 0, 1, 0, 0, 0, 2, 0]);
     }
+}
+
+#[test]
+fn no_balances_and_zeros_are_of_one_book() {
+    assert_one_book(carrying(k8(), &[0, 0, 0]));
+}
+
+#[test]
+fn levels_are_by_the_weights_in_force() {
+    let two = |weights| weighing(book(&[1, 2], &[6], &[&[4], &[4]]), weights);
+    // What is higher by paper 01's weights is lower by others.
+    assert_lower(&two(WEIGHTS), &[&[1], &[3]], &[&[2], &[2]]);
+    assert_lower(&two([1, 3, 4, 5, 6, 7, 8, 9]), &[&[2], &[2]], &[&[1], &[3]]);
+    // Half a credit and one.
+    assert_equal(&two([2, 4, 5, 6, 7, 8, 9, 10]), &[&[1], &[4]], &[&[2], &[2]]);
+    // By whole division all of these have level 0; 2 of 993 is above 2 of 994.
+    assert_lower(&two(HIGHEST), &[&[3], &[2]], &[&[2], &[3]]);
+    assert_lower(&weighing(book(&[8], &[999], &[&[999]]), HIGHEST), &[&[998]], &[&[999]]);
+}
+
+#[test]
+fn the_greatest_heights_and_weights_a_credit_apart() {
+    let most: &[u16] = &[MOST_CREDITS; WINDOWS];
+    let less = [&most[1..], &[MOST_CREDITS - 1]].concat();
+    let largest = weighing(book(&[7, 8], most, &[most, most]), HIGHEST);
+    let largest = carrying(largest, &[MOST_BALANCE, MOST_BALANCE]);
+    assert_lower(&largest, &[&less, &[]], &[most, &[]]);
+    assert_lower(&largest, &[&[], &less], &[&[], most]);
+    // 50,000 of 1,000 is below 50,000 of 999.
+    assert_lower(&largest, &[most, &[]], &[&[], most]);
+}
+
+#[test]
+fn other_weights_make_another_book() {
+    let file = |weights| file_of(&weighing(k8(), weights), NO_CREDITS);
+    let tens = [10, 20, 30, 40, 50, 60, 70, 80];
+    let mut all = vec![file_of(&k8(), NO_CREDITS), file(LOWEST), file(HIGHEST), file(tens)];
+    // K8 has seats of class 1 alone, and each of the eight weights counts.
+    for class in 0..8 {
+        let (mut one_more, mut from_here_on) = (tens, WEIGHTS);
+        one_more[class] += 1;
+        from_here_on[class..].iter_mut().for_each(|weight| *weight += 1);
+        all.extend([file(one_more), file(from_here_on)]);
+    }
+    assert_all_differ(&all);
+    // Another first seat beside the same weights makes none, nor do zeros.
+    let same = [first_is(weighing(k8(), LOWEST), 2), carrying(weighing(k8(), LOWEST), &[0, 0, 0])];
+    assert!(same.iter().all(|book| chosen(&all[1], &file_of(book, NO_CREDITS)) == Ok(1)));
+}
+
+#[test]
+fn no_weights_and_those_of_paper_01_are_of_one_book() {
+    assert_one_book(weighing(k8(), [1, 2, 3, 5, 8, 12, 20, 40]));
 }

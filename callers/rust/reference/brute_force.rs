@@ -28,6 +28,7 @@ fn small_book(rng: &mut Rng) -> Book {
     }
     book.first = rng.once_in(2).then(|| rng.between(1, book.seats) as u16);
     book.balances = rng.once_in(2).then(|| small_balances(rng, book.seats));
+    book.weights = rng.once_in(2).then(|| any_weights(rng));
     book
 }
 
@@ -39,6 +40,12 @@ fn small_balances(rng: &mut Rng, seats: usize) -> [u16; SEATS] {
         balances[rng.below(seats)] = MOST_BALANCE - rng.below(3) as u16;
     }
     balances
+}
+
+/// The lowest weights there are, the highest, low ones with which levels are often equal, or any.
+fn any_weights(rng: &mut Rng) -> [u16; 8] {
+    let (least, most) = [(1, 8), (993, 1000), (1, 12), (1, 1000)][rng.below(4)];
+    rng.rising(least, most)
 }
 
 /// Every way to hand out credits of one window: no cell above its cap, the sum not above the supply.
@@ -86,13 +93,14 @@ fn heights(book: &Book, sheet: &Sheet) -> Vec<i64> {
 }
 
 fn weight(book: &Book, seat: usize) -> i64 {
-    WEIGHTS[book.classes[seat] as usize - 1] as i64
+    book.weights.unwrap_or(WEIGHTS)[book.classes[seat] as usize - 1] as i64
 }
 
-/// The levels, lowest first, all times 120: a multiple of every weight, so that whole numbers hold them.
+/// The levels, lowest first, all times a million and rounded down. No weight is above 1,000, so two levels that differ do so by a millionth
+/// or more, and the whole numbers are in the order of the levels.
 fn profile(book: &Book, sheet: &Sheet) -> Vec<i64> {
     let heights = heights(book, sheet);
-    let mut levels: Vec<i64> = (0..book.seats).map(|seat| heights[seat] * 120 / weight(book, seat)).collect();
+    let mut levels: Vec<i64> = (0..book.seats).map(|seat| heights[seat] * 1_000_000 / weight(book, seat)).collect();
     levels.sort();
     levels
 }
@@ -204,8 +212,8 @@ fn check_sheet(book: &Book, sheet: &Sheet, best: &[i64], planned: &[i64]) -> u32
 #[test]
 fn every_sheet_of_small_books() {
     let mut rng = Rng::new(1);
-    let (mut books, mut marks, mut turned, mut moved, mut raised) = (0, [0u32; 5], 0, 0, 0);
-    while books < 6000 {
+    let (mut books, mut marks, mut turned, mut moved, mut weighed, mut raised) = (0, [0u32; 5], 0, 0, 0, 0);
+    while books < 10_000 {
         let book = small_book(&mut rng);
         let Some(sheets) = feasible_sheets(&book) else { continue };
         let best = sheets.iter().map(|sheet| profile(&book, sheet)).max().unwrap();
@@ -214,6 +222,7 @@ fn every_sheet_of_small_books() {
         let changed = |other: Book| (totals_planned != totals(&book, &plan_sheet(&other))) as u32;
         turned += changed(Book { first: None, ..book.clone() });
         moved += changed(Book { balances: None, ..book.clone() });
+        weighed += changed(Book { weights: None, ..book.clone() });
         raised += (planned != settled_sheet(&book)) as u32;
         let mut settled = Vec::new();
         for sheet in &sheets {
@@ -227,8 +236,9 @@ fn every_sheet_of_small_books() {
     }
     println!("{books} books; sheets with mark 1 to 4: {:?}", &marks[1..]);
     println!("on {turned} of them the first seat changes the totals, on {moved} the balances do;");
-    println!("on {raised} a settled sheet was not standard");
-    assert!(marks[1..].iter().all(|&count| count > 1000) && turned > 100 && moved > 500 && raised > 300);
+    println!("on {weighed} the weights do, and on {raised} a settled sheet was not standard");
+    assert!(marks[1..].iter().all(|&count| count > 1000));
+    assert!(turned > 100 && moved > 500 && weighed > 200 && raised > 300);
 }
 
 /// The highest sheet in reading order that has the totals and the window sums left, from some cell on: every number is tried, the highest
@@ -284,11 +294,12 @@ fn the_better_of_pairs_of_sheets() {
         let Some(sheets) = feasible_sheets(&book) else { continue };
         let pair = [0; 2].map(|_| sheets[rng.below(sheets.len())]);
         let [list, other] = pair.map(|sheet| profile(&book, &sheet));
-        // The list does not ask who comes first, so the files may differ in that; nor whether zeros are there.
+        // The list does not ask who comes first, so the files may differ in that; nor whether zeros or 01's weights are there.
         let [first, second] = pair.map(|sheet| {
             let first = rng.once_in(2).then(|| rng.between(1, book.seats) as u16);
             let balances = if rng.once_in(2) { Some(book.carried()) } else { book.balances };
-            file_of(&Book { first, balances, ..book.clone() }, Some(&sheet))
+            let weights = if rng.once_in(2) { Some(book.table()) } else { book.weights };
+            file_of(&Book { first, balances, weights, ..book.clone() }, Some(&sheet))
         });
         let chosen = better(&first, &second).map(|chosen| chosen.file);
         assert_eq!(chosen, Ok(if list < other { 2 } else { 1 }));

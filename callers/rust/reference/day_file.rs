@@ -1,9 +1,9 @@
 //! The day file: reader and writer.
 
-use super::{refuse_if, Book, Grid, Refusal, Sheet, MOST_BALANCE, MOST_CREDITS, SEATS, WEIGHTS, WINDOWS};
+use super::{refuse_if, Book, Grid, Refusal, Sheet, MOST_BALANCE, MOST_CREDITS, MOST_WEIGHT, SEATS, WEIGHTS, WINDOWS};
 
 /// The last kind that is known. Kinds 1 to 3 are in every file.
-const LAST_KIND: usize = 6;
+const LAST_KIND: usize = 7;
 
 /// Where the parts of a day file begin, and its length. A part that is missing has no bytes.
 #[derive(Clone, Copy, Debug)]
@@ -15,27 +15,30 @@ pub struct Layout {
     pub sheet: usize,
     pub first: usize,
     pub balances: usize,
+    pub weights: usize,
     pub length: usize,
 }
 
 impl Layout {
     /// The layout of the book's file, with or without a sheet.
     pub fn of(book: &Book, with_sheet: bool) -> Layout {
-        Layout::new(book.seats, book.windows, [with_sheet, book.first.is_some(), book.balances.is_some()])
+        let there = [with_sheet, book.first.is_some(), book.balances.is_some(), book.weights.is_some()];
+        Layout::new(book.seats, book.windows, there)
     }
 
-    /// The last argument says which of sheet, first seat and balances are there.
-    fn new(seats: usize, windows: usize, there: [bool; 3]) -> Layout {
-        let [with_sheet, with_first, with_balances] = there.map(usize::from);
-        let entries = 3 + with_sheet + with_first + with_balances;
+    /// The last argument says which of sheet, first seat, balances and weights are there.
+    fn new(seats: usize, windows: usize, there: [bool; 4]) -> Layout {
+        let [with_sheet, with_first, with_balances, with_weights] = there.map(usize::from);
+        let entries = 3 + with_sheet + with_first + with_balances + with_weights;
         let classes = 2 + 6 * entries;
         let supplies = classes + 2 * seats;
         let caps = supplies + 2 * windows;
         let sheet = caps + 2 * seats * windows;
         let first = sheet + with_sheet * 2 * seats * windows;
         let balances = first + with_first * 2;
-        let length = balances + with_balances * 2 * seats;
-        Layout { entries, classes, supplies, caps, sheet, first, balances, length }
+        let weights = balances + with_balances * 2 * seats;
+        let length = weights + with_weights * 2 * WEIGHTS.len();
+        Layout { entries, classes, supplies, caps, sheet, first, balances, weights, length }
     }
 }
 
@@ -44,6 +47,7 @@ struct Contents {
     sheet: Option<usize>,
     first: Option<usize>,
     balances: Option<usize>,
+    weights: Option<usize>,
 }
 
 /// The fields of entry `i` of the contents lie here, two bytes each.
@@ -66,29 +70,41 @@ fn field(file: &[u8], at: usize) -> usize {
 pub fn read(file: &[u8]) -> Result<(Book, Option<Sheet>), Refusal> {
     let contents = check_contents(file)?;
     let (seats, windows) = check_lengths(file, &contents)?;
-    let there = [contents.sheet, contents.first, contents.balances].map(|entry| entry.is_some());
+    let there = [contents.sheet, contents.first, contents.balances, contents.weights].map(|entry| entry.is_some());
     let layout = Layout::new(seats, windows, there);
     let mut book = Book::empty(seats, windows);
     read_row(&file[layout.classes..], &mut book.classes[..seats]);
     read_row(&file[layout.supplies..], &mut book.supplies[..windows]);
     read_grid(&file[layout.caps..], seats, windows, &mut book.caps);
     check_values(&book, &layout)?;
-    if let Some(entry) = contents.first {
-        refuse_if(field(file, length_at(entry)) != 2, 18, length_at(entry))?;
-        book.first = Some(field(file, layout.first) as u16);
-        check_first(&book, &layout)?;
-    }
-    if let Some(entry) = contents.balances {
-        refuse_if(field(file, length_at(entry)) != 2 * seats, 19, length_at(entry))?;
-        read_row(&file[layout.balances..], &mut book.balances.insert([0; SEATS])[..seats]);
-        check_balances(&book, &layout)?;
-    }
+    read_options(file, &contents, &layout, &mut book)?;
     if contents.sheet.is_none() {
         return Ok((book, None));
     }
     let mut sheet = [[0; WINDOWS]; SEATS];
     read_grid(&file[layout.sheet..], seats, windows, &mut sheet);
     Ok((book, Some(sheet)))
+}
+
+/// Refusals 18 to 20: first seat, balances and weights, where they are there.
+fn read_options(file: &[u8], contents: &Contents, layout: &Layout, book: &mut Book) -> Result<(), Refusal> {
+    let is_long = |entry: usize, length: usize| field(file, length_at(entry)) == length;
+    if let Some(entry) = contents.first {
+        refuse_if(!is_long(entry, 2), 18, length_at(entry))?;
+        book.first = Some(field(file, layout.first) as u16);
+        check_first(book, layout)?;
+    }
+    if let Some(entry) = contents.balances {
+        refuse_if(!is_long(entry, 2 * book.seats), 19, length_at(entry))?;
+        read_row(&file[layout.balances..], &mut book.balances.insert([0; SEATS])[..book.seats]);
+        check_balances(book, layout)?;
+    }
+    if let Some(entry) = contents.weights {
+        refuse_if(!is_long(entry, 2 * WEIGHTS.len()), 20, length_at(entry))?;
+        read_row(&file[layout.weights..], book.weights.insert([0; 8]));
+        check_weights(book, layout)?;
+    }
+    Ok(())
 }
 
 /// Refusals 1 to 6: the table of contents.
@@ -111,7 +127,7 @@ fn check_contents(file: &[u8]) -> Result<Contents, Refusal> {
     }
     refuse_if(end != file.len(), 6, file.len())?;
     let entry_of = |kind| (3..entries).find(|&i| field(file, kind_at(i)) == kind);
-    Ok(Contents { sheet: entry_of(4), first: entry_of(5), balances: entry_of(6) })
+    Ok(Contents { sheet: entry_of(4), first: entry_of(5), balances: entry_of(6), weights: entry_of(7) })
 }
 
 /// Refusals 7 to 9: the lengths of the bodies that depend on each other. Gives the numbers of seats and windows.
@@ -158,6 +174,16 @@ fn check_balances(book: &Book, layout: &Layout) -> Result<(), Refusal> {
     Ok(())
 }
 
+/// Refusal 20 by its values: a weight that is out of bounds, or not greater than the one before.
+fn check_weights(book: &Book, layout: &Layout) -> Result<(), Refusal> {
+    let mut before = 0;
+    for (place, &weight) in book.weights.iter().flatten().enumerate() {
+        refuse_if(weight <= before || weight > MOST_WEIGHT, 20, layout.weights + 2 * place)?;
+        before = weight;
+    }
+    Ok(())
+}
+
 /// Fills a row with the fields at the front of the bytes.
 fn read_row(bytes: &[u8], row: &mut [u16]) {
     for (value, pair) in row.iter_mut().zip(bytes.chunks_exact(2)) {
@@ -180,6 +206,7 @@ pub fn write(book: &Book, sheet: Option<&Sheet>, out: &mut [u8]) -> Result<usize
     check_values(book, &layout)?;
     check_first(book, &layout)?;
     check_balances(book, &layout)?;
+    check_weights(book, &layout)?;
     refuse_if(out.len() < layout.length, 16, layout.length)?;
     write_contents(book, &layout, sheet.is_some(), out);
     write_row(&book.classes[..book.seats], &mut out[layout.classes..]);
@@ -194,6 +221,9 @@ pub fn write(book: &Book, sheet: Option<&Sheet>, out: &mut [u8]) -> Result<usize
     if let Some(balances) = &book.balances {
         write_row(&balances[..book.seats], &mut out[layout.balances..]);
     }
+    if let Some(weights) = &book.weights {
+        write_row(weights, &mut out[layout.weights..]);
+    }
     Ok(layout.length)
 }
 
@@ -207,6 +237,7 @@ fn write_contents(book: &Book, layout: &Layout, with_sheet: bool, out: &mut [u8]
         (with_sheet, layout.sheet, cells),
         (book.first.is_some(), layout.first, 2),
         (book.balances.is_some(), layout.balances, 2 * book.seats),
+        (book.weights.is_some(), layout.weights, 2 * WEIGHTS.len()),
     ];
     write_row(&[layout.entries as u16], out);
     let there = (1..).zip(parts).filter(|(_, (is_there, ..))| *is_there);

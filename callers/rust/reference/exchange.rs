@@ -1,6 +1,6 @@
 //! A sheet in the making, and the exchange paths on it (paper 01: chains, from gainer to loser).
 
-use super::{Book, Sheet, SEATS, WEIGHTS, WINDOWS};
+use super::{Book, Sheet, SEATS, WINDOWS};
 
 /// A credit in a window goes from the giver to the taker.
 #[derive(Clone, Copy, Debug, Default, PartialEq, Eq)]
@@ -63,7 +63,7 @@ impl<'a> Position<'a> {
             holders: [0; WINDOWS],
         };
         for seat in 0..book.seats {
-            position.weights[seat] = WEIGHTS[book.classes[seat] as usize - 1] as i32;
+            position.weights[seat] = book.weight(seat) as i32;
             position.places[seat] = book.place(seat);
             for window in 0..book.windows {
                 position.heights[seat] += sheet[seat][window] as i32;
@@ -138,7 +138,7 @@ impl<'a> Position<'a> {
             && self.places[receiver] < self.places[donor]
     }
 
-    /// The receiver's level and the donor's less one credit, both times both weights.
+    /// The receiver's level and the donor's less one credit, both times both weights: at most 148,280 credits times 1,000.
     fn levels_between(&self, receiver: usize, donor: usize) -> (i32, i32) {
         let low = self.heights[receiver] * self.weights[donor];
         let high = (self.heights[donor] - 1) * self.weights[receiver];

@@ -133,6 +133,7 @@ pub(super) fn k8_and(optional: &[(u16, &[u8])]) -> Vec<u8> {
 #[test]
 fn kinds_after_the_third_rise_and_are_known() {
     let (cells, seat, balances) = (&[0; 12][..], &[2, 0][..], &[0; 6][..]);
+    let weights: &[u8] = &[1, 0, 2, 0, 3, 0, 4, 0, 5, 0, 6, 0, 7, 0, 8, 0];
     assert_eq!(k8_and(&[]), file_of(&k8(), None));
     for (optional, expected) in [
         (&[(4, cells)][..], None),
@@ -142,18 +143,26 @@ fn kinds_after_the_third_rise_and_are_known() {
         (&[(4, cells), (6, balances)], None),
         (&[(5, seat), (6, balances)], None),
         (&[(4, cells), (5, seat), (6, balances)], None),
+        (&[(7, weights)], None),
+        (&[(4, cells), (7, weights)], None),
+        (&[(5, seat), (7, weights)], None),
+        (&[(6, balances), (7, weights)], None),
+        (&[(4, cells), (5, seat), (6, balances), (7, weights)], None),
         (&[(5, seat), (4, cells)], refusal(4, 26)),
         (&[(6, balances), (5, seat)], refusal(4, 26)),
         (&[(4, cells), (6, balances), (5, seat)], refusal(4, 32)),
+        (&[(7, weights), (6, balances)], refusal(4, 26)),
+        (&[(4, cells), (7, weights), (5, seat)], refusal(4, 32)),
         (&[(5, seat), (5, seat)], refusal(4, 26)),
         (&[(4, cells), (4, cells)], refusal(4, 26)),
         (&[(6, balances), (6, balances)], refusal(4, 26)),
-        (&[(4, cells), (7, seat)], refusal(4, 26)),
-        (&[(7, seat), (5, seat)], refusal(4, 20)),
-        (&[(4, cells), (5, seat), (7, balances)], refusal(4, 32)),
+        (&[(6, balances), (7, weights), (7, weights)], refusal(4, 32)),
+        (&[(4, cells), (8, seat)], refusal(4, 26)),
+        (&[(8, seat), (5, seat)], refusal(4, 20)),
+        (&[(4, cells), (5, seat), (6, balances), (8, weights)], refusal(4, 38)),
         (&[(3, cells), (5, seat)], refusal(4, 20)),
         (&[(0, seat)], refusal(4, 20)),
-        (&[(4, cells), (5, seat), (6, balances), (7, seat)], refusal(2, 0)),
+        (&[(4, cells), (5, seat), (6, balances), (7, weights), (8, seat)], refusal(2, 0)),
     ] {
         assert_eq!(read(&k8_and(optional)).err(), expected, "{optional:?}");
     }

@@ -4,7 +4,7 @@ use std::cmp::Ordering;
 
 use super::exchange::{bits, Position, Reach};
 use super::standard::standard;
-use super::{read, write, Book, Refusal, Sheet, SEATS, WEIGHTS, WINDOWS};
+use super::{read, write, Book, Refusal, Sheet, SEATS, WINDOWS};
 
 /// Plans the book of a day file and writes the whole file with the planned sheet to the front of `out`.
 pub fn plan(file: &[u8], out: &mut [u8]) -> Result<usize, Refusal> {
@@ -28,7 +28,7 @@ pub fn settled_sheet(book: &Book) -> Sheet {
 /// Hands out every window by itself, as far as caps allow: shares by weight among the seats below their caps,
 /// and what they leave is shared again.
 fn fill(book: &Book) -> Sheet {
-    let weight = |seat: usize| WEIGHTS[book.classes[seat] as usize - 1] as u32;
+    let weight = |seat: usize| book.weight(seat) as u32;
     let mut sheet = [[0; WINDOWS]; SEATS];
     for window in 0..book.windows {
         let mut left = book.supplies[window] as u32;

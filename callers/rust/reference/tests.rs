@@ -10,6 +10,8 @@ mod better_tests;
 mod first_tests;
 #[path = "standard_tests.rs"]
 mod standard_tests;
+#[path = "weight_tests.rs"]
+mod weight_tests;
 
 /// A book of small parts; rows are seats.
 fn book(classes: &[u16], supplies: &[u16], caps: &[&[u16]]) -> Book {
@@ -207,7 +209,7 @@ fn contents_turned_away() {
         (vec![], 1, 0),
         (vec![3], 1, 1),
         (k8_with(0, 2), 2, 0),
-        (k8_with(0, 7), 2, 0),
+        (k8_with(0, 8), 2, 0),
         (k8_with(0, 4)[..25].to_vec(), 3, 25),
         (k8_with(0, 4), 4, 20),
         (k8_with(8, 3), 4, 8),
