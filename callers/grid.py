@@ -20,13 +20,14 @@ MOVED = "#b03a2e"
 
 
 def read(data):
-    """Classes, supplies, caps, sheet and balances of a day file that has a sheet."""
+    """Supplies, caps, sheet, and each seat's weight and balance, of a day file that has a sheet."""
     numbers = struct.unpack("<%dH" % (len(data) // 2), data)
     entries = list(zip(numbers[1::3], numbers[2::3], numbers[3::3]))[:numbers[0]]
     parts = {kind: numbers[start // 2:(start + length) // 2] for kind, start, length in entries}
     classes, supplies, caps, sheet = (parts[kind] for kind in (1, 2, 3, 4))
     rows = [slice(i, i + len(supplies)) for i in range(0, len(caps), len(supplies))]
-    return classes, supplies, [caps[row] for row in rows], [list(sheet[row]) for row in rows], parts.get(6, [0] * len(classes))
+    weights = [parts.get(7, WEIGHTS)[number - 1] for number in classes]
+    return supplies, [caps[row] for row in rows], [list(sheet[row]) for row in rows], weights, parts.get(6, [0] * len(classes))
 
 
 def panel_width(windows):
@@ -51,7 +52,7 @@ def level(weight, balance, total):
     return ", level %d/%d" % (balance + total, weight)
 
 
-def draw_sides(picture, left, classes, supplies, sheet, balances):
+def draw_sides(picture, left, supplies, sheet, weights, balances):
     right, bottom = left + len(supplies) * CELL_WIDTH, TOP + len(sheet) * CELL_HEIGHT
     for window, supply in enumerate(supplies):
         middle = left + (window + 0.5) * CELL_WIDTH
@@ -62,7 +63,7 @@ def draw_sides(picture, left, classes, supplies, sheet, balances):
     for seat, row in enumerate(sheet):
         y = TOP + seat * CELL_HEIGHT + 31
         picture.text(left - 10, y, "seat %d" % (seat + 1), size=12, anchor="end")
-        words = level(WEIGHTS[classes[seat] - 1], balances[seat], sum(row))
+        words = level(weights[seat], balances[seat], sum(row))
         picture.text(right + 12, y, "total %d%s" % (sum(row), words), size=13)
 
 
@@ -93,7 +94,7 @@ def parse(words):
 
 def main(path, chains):
     with open(path, "rb") as file:
-        classes, supplies, caps, sheet, balances = read(file.read())
+        supplies, caps, sheet, weights, balances = read(file.read())
     step = panel_width(len(supplies)) + GAP
     picture = Picture(step * len(chains) - GAP, TOP + len(sheet) * CELL_HEIGHT + 38)
     for place, words in enumerate(chains):
@@ -101,7 +102,7 @@ def main(path, chains):
         title, moves = parse(words)
         picture.text(left, 34, title, size=15, bold=True)
         draw_cells(picture, left, caps, sheet)
-        draw_sides(picture, left, classes, supplies, sheet, balances)
+        draw_sides(picture, left, supplies, sheet, weights, balances)
         draw_moves(picture, left, moves)
         sheet = play(sheet, moves)
     print(picture, end="")

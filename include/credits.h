@@ -1,9 +1,10 @@
 /* credits.h: libcredits shares out message credits fairly by trading window.
  *
  * A day file holds a book (the seats' classes, the windows' supplies, a cap for each seat in each window, and perhaps the seat that comes
- * first today, and a balance for each seat, which is what it received on earlier days) and perhaps a sheet (credits for each seat in each
- * window). The calls read one, write one, mark its sheet, plan the fairest sheet, list it as text, and choose the better of two sheets of a
- * book. What each call does is proved for every file, every book and every buffer; the contracts are in crates/credits/specs/Calls.antt.
+ * first today, a balance for each seat, which is what it received on earlier days, and its own weight for each class) and perhaps a sheet
+ * (credits for each seat in each window). The calls read one, write one, mark its sheet, plan the fairest sheet, list it as text, and
+ * choose the better of two sheets of a book. What each call does is proved for every file, every book and every buffer; the contracts are
+ * in crates/credits/specs/Calls.antt.
  *
  * What a caller owes, for every call:
  *   - A pointer points to as many bytes as the length after it says. They may be read, and written where it is not const. With length 0
@@ -27,7 +28,7 @@ extern "C" {
 
 #define CREDITS_SEATS 32         /* the most seats */
 #define CREDITS_WINDOWS 24       /* the most windows */
-#define CREDITS_FILE_MAX 3288    /* the longest day file, in bytes: room for any file that is planned or written */
+#define CREDITS_FILE_MAX 3310    /* the longest day file, in bytes: room for any file that is planned or written */
 #define CREDITS_MOVES_MAX 93     /* what credits_mark asks of its buffer, in bytes */
 #define CREDITS_LISTING_MAX 3453 /* what credits_listing asks of its buffer, in bytes */
 
@@ -36,9 +37,9 @@ extern "C" {
 enum {
     CREDITS_OK = 0,
     CREDITS_REFUSED_SHORT = 1,          /* under 2 bytes                                        file length */
-    CREDITS_REFUSED_ENTRIES = 2,        /* entries not 3 to 6                                   0 */
+    CREDITS_REFUSED_ENTRIES = 2,        /* entries not 3 to 7                                   0 */
     CREDITS_REFUSED_CONTENTS = 3,       /* file ends within the contents                        file length */
-    CREDITS_REFUSED_KIND = 4,           /* kinds not 1, 2, 3, then rising up to 6               that kind field */
+    CREDITS_REFUSED_KIND = 4,           /* kinds not 1, 2, 3, then rising up to 7               that kind field */
     CREDITS_REFUSED_START = 5,          /* start not where the part before ends                 that start field */
     CREDITS_REFUSED_END = 6,            /* last body does not end at the file's end             file length */
     CREDITS_REFUSED_SEATS = 7,          /* seats: not 2 to 64 bytes, or odd                     that length field */
@@ -49,16 +50,18 @@ enum {
     CREDITS_REFUSED_CAP = 12,           /* cap above 4,095                                      that cap */
     CREDITS_REFUSED_FIRST = 18,         /* first seat: not 2 bytes, or not in the book          that length field, or that value */
     CREDITS_REFUSED_BALANCES = 19,      /* balances: not 2 x seats bytes, or above 50,000       that length field, or that value */
+    CREDITS_REFUSED_WEIGHTS = 20,       /* weights: not 16 bytes, not 1 to 1,000 or not rising  that length field, or that value */
     CREDITS_REFUSED_NO_SHEET = 13,      /* mark, better: no sheet                               0 */
     CREDITS_REFUSED_ABOVE_CAP = 14,     /* mark, better: cell above its cap                     that cell */
     CREDITS_REFUSED_ABOVE_SUPPLY = 15,  /* mark, better: window's cells above its supply        that supply */
     CREDITS_REFUSED_BUFFER = 16,        /* the buffer is too short                              length needed */
-    CREDITS_REFUSED_OTHER_BOOK = 17     /* better: classes, supplies, caps or balances differ   0 */
+    CREDITS_REFUSED_OTHER_BOOK = 17     /* better: the books differ, see credits_better         0 */
 };
 
-/* Marks. Tied and settled sheets pass. How fair a sheet is goes by levels: a seat's level is its balance plus its total, divided by its
- * weight. The seat rule: of two seats with equal weights the odd credit goes to the one that comes earlier in the order of the day. That
- * order runs from the first seat up to the last and on from seat 1; where none is named, seat 1 comes first. */
+/* Marks. Tied and settled sheets pass. How fair a sheet is goes by levels: a seat's level is its balance plus its total, divided by the
+ * weight of its class. The weights of classes 1 to 8 are the book's own; where it has none, they are 1, 2, 3, 5, 8, 12, 20 and 40. The
+ * seat rule: of two seats with equal weights the odd credit goes to the one that comes earlier in the order of the day. That order runs
+ * from the first seat up to the last and on from seat 1; where none is named, seat 1 comes first. */
 enum {
     CREDITS_WASTEFUL = 1,   /* a window has credits left while a seat is below its cap there */
     CREDITS_IMPROVABLE = 2, /* a chain of moves makes the sheet fairer */
@@ -81,6 +84,8 @@ typedef struct {
     uint16_t first;     /* the seat that comes first today, counted from 1 as in the file; credits_read gives 0 where none is named */
     uint32_t has_balances;            /* 0: there are no balances, which means zeros; credits_read says 1 where there are some */
     uint16_t balances[CREDITS_SEATS]; /* what each seat received on earlier days, 0 to 50,000; credits_read gives 0 where there are none */
+    uint32_t has_weights; /* 0: the book has no weights of its own; credits_read says 1 where it has some */
+    uint16_t weights[8];  /* the weights of classes 1 to 8, 1 to 1,000 and rising; credits_read gives 0 where there are none */
 } credits_book;
 
 /* In each result: refusal 0 and offset 0 where the call did its work. At a refusal the other fields are all 0, but for `file` of a
@@ -117,20 +122,20 @@ typedef struct {
 
 /* At a refusal no byte of a buffer changes. The bytes after what a call writes keep their values. */
 
-/* The book and the sheet of a day file. Refusals 1 to 12, then 18 and 19. */
+/* The book and the sheet of a day file. Refusals 1 to 12, then 18 to 20. */
 credits_read_result credits_read(const uint8_t *file, size_t file_len);
 
-/* The day file of a book, to the front of `out`. Refusals 7, 8, 10, 11, 12, 18, 19 (with offsets in the file that would be written), and
- * 16. */
+/* The day file of a book, to the front of `out`. Refusals 7, 8, 10, 11, 12, 18, 19, 20 (with offsets in the file that would be written),
+ * and 16. */
 credits_write_result credits_write(credits_book book, uint8_t *out, size_t out_len);
 
 /* The mark of the sheet in a day file. Marks 2 and 3 write a chain to the front of `moves`: three bytes for each move, window, giver,
- * taker. Refusals 1 to 12, then 18 and 19, then 13 to 16. */
+ * taker. Refusals 1 to 12, then 18 to 20, then 13 to 16. */
 credits_mark_result credits_mark(const uint8_t *file, size_t file_len, uint8_t *moves, size_t moves_len);
 
 /* The same day file with its standard sheet, to the front of `out`: of all settled sheets of the book the one whose cells, read seat by
  * seat and within a seat window by window, are highest in dictionary order. So one file is planned to the same bytes always. A sheet that
- * the file holds is ignored; a first seat and balances are kept. Refusals 1 to 12, then 18 and 19, then 16. */
+ * the file holds is ignored; a first seat, balances and weights are kept. Refusals 1 to 12, then 18 to 20, then 16. */
 credits_write_result credits_plan(const uint8_t *file, size_t file_len, uint8_t *out, size_t out_len);
 
 /* A day file and its mark as text, to the front of `out`; there is no 0 byte at the end. For a file that credits_mark refuses the text is
@@ -138,9 +143,11 @@ credits_write_result credits_plan(const uint8_t *file, size_t file_len, uint8_t 
 credits_write_result credits_listing(const uint8_t *file, size_t file_len, uint8_t *out, size_t out_len);
 
 /* Which of two sheets of one book is better: the file with the higher list, or the first where the lists are equal; and the part of that
- * file which is its sheet body. A list holds the seats' levels, lowest first, and the first place where two lists differ decides. First
- * seats may differ, since no list depends on them; balances may not, but zeros and no balances at all are the same. Both files may be the
- * same bytes in memory. Refusals 1 to 12, then 18 and 19, then 13 to 15 of the first file, then those of the second, then 17. */
+ * file which is its sheet body. A list holds the seats' levels, lowest first, and the first place where two lists differ decides. Classes,
+ * supplies, caps, balances and all eight weights must be the same, whether a seat has the class or not; zeros and no balances at all are
+ * the same, and so are the weights 1, 2, 3, 5, 8, 12, 20, 40 and none at all. First seats may differ, since no list depends on them. Both
+ * files may be the same bytes in memory. Refusals 1 to 12, then 18 to 20, then 13 to 15 of the first file, then those of the second, then
+ * 17. */
 credits_better_result credits_better(const uint8_t *first, size_t first_len, const uint8_t *second, size_t second_len);
 
 #ifdef __cplusplus

@@ -23,10 +23,12 @@ static_assert(offsetof(credits_book, has_first) == 3204, "has_first");
 static_assert(offsetof(credits_book, first) == 3208, "first");
 static_assert(offsetof(credits_book, has_balances) == 3212, "has_balances");
 static_assert(offsetof(credits_book, balances) == 3216, "balances");
-static_assert(sizeof(credits_book) == 3280, "credits_book");
+static_assert(offsetof(credits_book, has_weights) == 3280, "has_weights");
+static_assert(offsetof(credits_book, weights) == 3284, "weights");
+static_assert(sizeof(credits_book) == 3304, "credits_book");
 static_assert(offsetof(credits_read_result, offset) == 8, "offset of a read result");
 static_assert(offsetof(credits_read_result, book) == 16, "book");
-static_assert(sizeof(credits_read_result) == 3296, "credits_read_result");
+static_assert(sizeof(credits_read_result) == 3320, "credits_read_result");
 static_assert(offsetof(credits_write_result, offset) == 8, "offset of a write result");
 static_assert(offsetof(credits_write_result, length) == 16, "length");
 static_assert(sizeof(credits_write_result) == 24, "credits_write_result");
@@ -142,7 +144,8 @@ static size_t total(const credits_book *book, size_t seat) {
 static const char *const examples[] = {"k01", "k02", "k03",  "k04",  "k05", "k06", "k07",        "k08",
                                        "k09", "k10a", "k10b", "k11", "k12", "full-alone", "full-fixed", "full-ladder",
                                        "pair-a", "pair-b", "first-k03", "first-k04", "first-three", "full-first",
-                                       "standard", "balances-k05", "balances-k05b", "balances-three", "full-balances"};
+                                       "standard", "balances-k05", "balances-k05b", "balances-three", "full-balances",
+                                       "weights-k05", "weights-k05b", "weights-k06", "weights-three", "weights-close", "full-weights"};
 
 static void try_example(const char *folder, const char *name) {
     bytes file = load(folder, name, ".day");
@@ -155,6 +158,7 @@ static void try_example(const char *folder, const char *name) {
     CHECK(memcmp(fair.caps, book.caps, sizeof book.caps) == 0);
     CHECK(fair.has_first == book.has_first && fair.first == book.first);
     CHECK(fair.has_balances == book.has_balances && memcmp(fair.balances, book.balances, sizeof book.balances) == 0);
+    CHECK(fair.has_weights == book.has_weights && memcmp(fair.weights, book.weights, sizeof book.weights) == 0);
     bytes moves = block(CREDITS_MOVES_MAX);
     credits_mark_result m = credits_mark(plan.at, plan.length, moves.at, moves.length);
     CHECK(m.refusal == CREDITS_OK && m.offset == 0 && m.mark == CREDITS_SETTLED);
@@ -264,10 +268,11 @@ static credits_better_result better(bytes first, bytes second) {
     return credits_better(first.at, first.length, second.at, second.length);
 }
 
-/* The sheet body is the last part of its file but for the first seat and the balances. */
+/* The sheet body is the last part of its file but for the first seat, the balances and the weights. */
 static int chosen(credits_better_result r, uint32_t number, bytes file) {
     credits_book book = book_in(file);
-    size_t length = 2 * book.seats * book.windows, after = (book.has_first ? 2 : 0) + (book.has_balances ? 2 * book.seats : 0);
+    size_t length = 2 * book.seats * book.windows;
+    size_t after = (book.has_first ? 2 : 0) + (book.has_balances ? 2 * book.seats : 0) + (book.has_weights ? 16 : 0);
     return r.refusal == CREDITS_OK && r.offset == 0 && r.file == number && r.start == file.length - after - length && r.length == length;
 }
 
@@ -407,6 +412,83 @@ static void try_balances(const char *folder) {
     free(k05.at);
 }
 
+/* ---- weights of its own */
+
+static const uint16_t built_in[8] = {1, 2, 3, 5, 8, 12, 20, 40};
+static const uint16_t lowest[8] = {1, 2, 3, 4, 5, 6, 7, 8};
+static const uint16_t highest[8] = {993, 994, 995, 996, 997, 998, 999, 1000};
+static const uint16_t one_to_three[8] = {1, 3, 6, 10, 20, 50, 300, 1000}; /* those of weights-k05 */
+
+static credits_book with_weights(credits_book book, const uint16_t *weights) {
+    book.has_weights = 1;
+    memcpy(book.weights, weights, sizeof book.weights);
+    return book;
+}
+
+/* A seat of each class, and two windows that have together as many credits as the weights add up to. */
+static credits_book all_classes(const uint16_t *weights) {
+    credits_book book = {0};
+    book.seats = 8;
+    book.windows = 2;
+    for (size_t i = 0; i < 8; i++) {
+        book.classes[i] = (uint16_t)(i + 1);
+        book.caps[i][0] = book.caps[i][1] = 4095;
+        book.supplies[i % 2] += weights[i];
+    }
+    return with_weights(book, weights);
+}
+
+/* Each seat gets as many credits as its weight says, so that all levels are 1. The file keeps the weights. */
+static void expect_shares(const char *name, const uint16_t *weights) {
+    bytes file = written(all_classes(weights)), plan = planned(file);
+    credits_book fair = book_in(plan);
+    CHECK(fair.has_weights == 1 && memcmp(fair.weights, weights, sizeof fair.weights) == 0);
+    CHECK(memcmp(plan.at + plan.length - 16, file.at + file.length - 16, 16) == 0);
+    for (size_t i = 0; i < 8; i++) CHECK(total(&fair, i) == weights[i]);
+    printf("a seat of each class, with the %s weights: totals %zu to %zu\n", name, total(&fair, 0), total(&fair, 7));
+    free(plan.at);
+    free(file.at);
+}
+
+static void try_weights(const char *folder) {
+    bytes k05 = load(folder, "k05", ".day"), other = load(folder, "weights-k05", ".day");
+    bytes plan = planned(k05), other_plan = planned(other);
+    credits_book fair = book_in(plan), other_fair = book_in(other_plan);
+    CHECK(fair.has_weights == 0 && fair.weights[0] == 0 && fair.weights[7] == 0);
+    CHECK(total(&fair, 0) == 2 && total(&fair, 1) == 2 && total(&other_fair, 0) == 1 && total(&other_fair, 1) == 3);
+    /* the sheet that is settled with the built-in weights can be improved with others */
+    bytes spoilt = written(with_weights(fair, one_to_three)), moves = block(CREDITS_MOVES_MAX);
+    credits_mark_result m = credits_mark(spoilt.at, spoilt.length, moves.at, moves.length);
+    CHECK(m.mark == CREDITS_IMPROVABLE && m.moves == 1 && memcmp(moves.at, "\1\1\2", 3) == 0 && untouched(moves, 3));
+    CHECK(chosen(better(spoilt, other_plan), 2, other_plan) && chosen(better(other_plan, spoilt), 1, other_plan));
+    CHECK(turned_away(better(plan, spoilt), CREDITS_REFUSED_OTHER_BOOK, 0, 0));
+    printf("k05 planned without weights: improvable with 1 3, and of another book\n");
+    free(moves.at);
+    free(spoilt.at);
+    free(other_plan.at);
+    free(plan.at);
+    free(other.at);
+    free(k05.at);
+}
+
+/* The built-in weights and none at all are of one book; a weight that no seat has makes another one. */
+static void try_built_in_weights(const char *folder) {
+    bytes k06 = load(folder, "k06", ".day"), named = load(folder, "weights-k06", ".day");
+    credits_book book = with_weights(book_in(k06), built_in);
+    bytes file = written(book);
+    CHECK(same(file.at, named, file.length) && named.length == k06.length + 6 + 16);
+    CHECK(chosen(better(k06, named), 1, k06) && chosen(better(named, k06), 1, named));
+    book.weights[7] = 41; /* both seats are of lower classes */
+    bytes other = written(book);
+    CHECK(turned_away(better(other, k06), CREDITS_REFUSED_OTHER_BOOK, 0, 0));
+    CHECK(turned_away(better(named, other), CREDITS_REFUSED_OTHER_BOOK, 0, 0));
+    printf("k06 with the built-in weights: of the same book as without; with another weight of class 8: of another\n");
+    free(other.at);
+    free(file.at);
+    free(named.at);
+    free(k06.at);
+}
+
 /* ---- refusals, which leave every buffer as it was */
 
 static int refused(credits_write_result r, uint32_t number, size_t offset) {
@@ -416,6 +498,7 @@ static int refused(credits_write_result r, uint32_t number, size_t offset) {
 static int all_zero(const credits_book *b) {
     static const credits_book zero;
     return b->seats == 0 && b->windows == 0 && b->has_sheet == 0 && b->has_first == 0 && b->first == 0 && b->has_balances == 0 &&
+           b->has_weights == 0 && memcmp(b->weights, zero.weights, sizeof b->weights) == 0 &&
            memcmp(b->balances, zero.balances, sizeof b->balances) == 0 && memcmp(b->classes, zero.classes, sizeof b->classes) == 0 &&
            memcmp(b->supplies, zero.supplies, sizeof b->supplies) == 0 && memcmp(b->caps, zero.caps, sizeof b->caps) == 0 &&
            memcmp(b->sheet, zero.sheet, sizeof b->sheet) == 0;
@@ -539,6 +622,57 @@ static void try_wrong_balances(const char *folder) {
     free(file.at);
 }
 
+/* Weights as the last body of a file. */
+static void put_weights(bytes file, const uint16_t *weights) {
+    uint8_t *at = file.at + file.length - 16;
+    for (size_t i = 0; i < 8; i++) {
+        at[2 * i] = weights[i] % 256;
+        at[2 * i + 1] = weights[i] / 256;
+    }
+}
+
+/* Weights are 1 to 1,000, each greater than the one before: the first that is not is refused. */
+static void try_wrong_weights(const char *folder) {
+    static const struct {
+        uint16_t weights[8];
+        size_t place;
+    } wrong[] = {{{0, 2, 3, 5, 8, 12, 20, 40}, 0},
+                 {{5, 5, 3, 5, 8, 12, 20, 40}, 1},
+                 {{7, 2000, 3, 5, 8, 12, 20, 40}, 1},
+                 {{1, 2, 3, 5, 8, 12, 20, 1001}, 7}};
+    bytes file = load(folder, "weights-k05b", ".day"), out = block(CREDITS_FILE_MAX);
+    credits_book book = book_in(file);
+    for (size_t i = 0; i < sizeof wrong / sizeof wrong[0]; i++) {
+        size_t at = file.length - 16 + 2 * wrong[i].place;
+        credits_book spoilt = with_weights(book, wrong[i].weights);
+        CHECK(refused(credits_write(spoilt, out.at, out.length), CREDITS_REFUSED_WEIGHTS, at) && untouched(out, 0));
+        put_weights(file, wrong[i].weights);
+        expect_refused(file, CREDITS_REFUSED_WEIGHTS, at);
+    }
+    free(out.at);
+    free(file.at);
+}
+
+/* There are eight weights; and where there are none, no number is looked at. */
+static void try_number_of_weights(const char *folder) {
+    bytes file = load(folder, "weights-k05b", ".day");
+    credits_book book = book_in(file);
+    CHECK(book.has_weights == 1 && memcmp(book.weights, one_to_three, sizeof book.weights) == 0);
+    book.has_weights = 7; /* any number but 0 */
+    bytes with = written(book);
+    CHECK(same(with.at, file, with.length));
+    book.has_weights = 0;
+    book.weights[0] = 65535;
+    bytes without = written(book);
+    CHECK(without.length == file.length - 6 - 16 && book_in(without).has_weights == 0 && book_in(without).weights[0] == 0);
+    file.at[30] = 14; /* the length of the weights, which end the file: seven of them */
+    file.length -= 2;
+    expect_refused(file, CREDITS_REFUSED_WEIGHTS, 30);
+    free(without.at);
+    free(with.at);
+    free(file.at);
+}
+
 static void try_books(const char *folder) {
     bytes file = load(folder, "k08", ".day"), out = block(CREDITS_FILE_MAX);
     credits_book book = book_in(file);
@@ -570,11 +704,18 @@ int main(int argc, char **argv) {
     for (size_t i = 0; i < sizeof examples / sizeof examples[0]; i++) try_better(folder, examples[i]);
     try_first_seats(folder);
     try_balances(folder);
+    expect_shares("built-in", built_in);
+    expect_shares("lowest", lowest);
+    expect_shares("highest", highest);
+    try_weights(folder);
+    try_built_in_weights(folder);
     try_refused_pairs(folder);
     try_refused_files(folder);
     try_wrong_first(folder);
     try_high_balances(folder);
     try_wrong_balances(folder);
+    try_wrong_weights(folder);
+    try_number_of_weights(folder);
     try_short_buffers(folder);
     try_books(folder);
     printf("C: %d checks passed\n", checks);

@@ -3,8 +3,8 @@ import ctypes
 import os
 from typing import NamedTuple
 
-SEATS, WINDOWS = 32, 24
-FILE_MAX, MOVES_MAX, LISTING_MAX = 3288, 93, 3453
+SEATS, WINDOWS, CLASSES = 32, 24, 8
+FILE_MAX, MOVES_MAX, LISTING_MAX = 3310, 93, 3453
 WASTEFUL, IMPROVABLE, TIED, SETTLED = 1, 2, 3, 4
 
 Row = ctypes.c_uint16 * WINDOWS
@@ -18,16 +18,27 @@ def in_field(number):
     return number
 
 
+def fields(numbers, count):
+    """So many numbers of two bytes each; or none, where there are no numbers."""
+    row = [in_field(number) for number in numbers or []]
+    if numbers is not None and len(row) != count:
+        raise ValueError(f'{len(row)} numbers in place of {count}')
+    return row
+
+
 class Book(ctypes.Structure):
     """A book in memory; seats and windows count from 0. There is a sheet unless has_sheet is 0.
 
     Unless has_first is 0, `first` is the seat that comes first today, counted from 1; `first_seat` has None in place of the two.
     Unless has_balances is 0, `balances` are what the seats received on earlier days, 0 to 50,000; `carried` is a list of one for each
-    seat, or None. Set it after `seats`."""
+    seat, or None. Set it after `seats`.
+    Unless has_weights is 0, `weights` are those of classes 1 to 8, 1 to 1,000 and rising; `own_weights` is a list of the eight, or None,
+    which means 1, 2, 3, 5, 8, 12, 20 and 40."""
     _fields_ = [('seats', ctypes.c_size_t), ('windows', ctypes.c_size_t), ('classes', ctypes.c_uint16 * SEATS),
                 ('supplies', Row), ('caps', Grid), ('has_sheet', ctypes.c_uint32), ('sheet', Grid),
                 ('has_first', ctypes.c_uint32), ('first', ctypes.c_uint16),
-                ('has_balances', ctypes.c_uint32), ('balances', ctypes.c_uint16 * SEATS)]
+                ('has_balances', ctypes.c_uint32), ('balances', ctypes.c_uint16 * SEATS),
+                ('has_weights', ctypes.c_uint32), ('weights', ctypes.c_uint16 * CLASSES)]
 
     @property
     def first_seat(self):
@@ -43,10 +54,15 @@ class Book(ctypes.Structure):
 
     @carried.setter
     def carried(self, balances):
-        row = [in_field(balance) for balance in balances or []]
-        if balances is not None and len(row) != self.seats:
-            raise ValueError(f'{len(row)} balances for {self.seats} seats')
-        self.has_balances, self.balances = int(balances is not None), (ctypes.c_uint16 * SEATS)(*row)
+        self.has_balances, self.balances = int(balances is not None), (ctypes.c_uint16 * SEATS)(*fields(balances, self.seats))
+
+    @property
+    def own_weights(self):
+        return list(self.weights) if self.has_weights else None
+
+    @own_weights.setter
+    def own_weights(self, weights):
+        self.has_weights, self.weights = int(weights is not None), (ctypes.c_uint16 * CLASSES)(*fields(weights, CLASSES))
 
     def total(self, seat):
         return sum(self.sheet[seat][:self.windows])

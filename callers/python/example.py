@@ -25,7 +25,7 @@ def try_example(day):
     assert credits.write(book) == file
     plan = credits.plan(file)
     fair = credits.read(plan)
-    assert (fair.first_seat, fair.carried) == (book.first_seat, book.carried)
+    assert (fair.first_seat, fair.carried, fair.own_weights) == (book.first_seat, book.carried, book.own_weights)
     assert credits.mark(plan) == (credits.SETTLED, 0, 0, [])
     assert credits.listing(file) == day.with_suffix('.listing').read_text()
     assert credits.listing(plan) == day.with_suffix('.planned.listing').read_text()
@@ -136,6 +136,33 @@ def try_balances():
     print('balances that are too high: refused')
 
 
+def try_weights():
+    """K5's book with weights of its own: who weighs more gets more. Then weights that do not rise, and other books by their weights."""
+    book = credits.read((FOLDER / 'k05.day').read_bytes())
+    assert book.own_weights is None
+    built_in, one_to_three, highest = (1, 2, 3, 5, 8, 12, 20, 40), (1, 3, 6, 10, 20, 50, 300, 1000), tuple(range(993, 1001))
+    plans = {}
+    for weights, expected in ((None, [2, 2]), (built_in, [2, 2]), (one_to_three, [1, 3]), (highest, [2, 2])):
+        book.own_weights = weights
+        plans[weights] = credits.plan(credits.write(book))
+        fair = credits.read(plans[weights])
+        totals = [fair.total(i) for i in range(fair.seats)]
+        assert fair.own_weights == (None if weights is None else list(weights)) and totals == expected
+        print('k05', f'with weights {weights}:' if weights else 'without weights:', 'totals', *totals)
+    assert plans[one_to_three] == credits.plan((FOLDER / 'weights-k05.day').read_bytes())
+    assert credits.better(plans[None], plans[built_in]).file == credits.better(plans[built_in], plans[None]).file == 1
+    for first, second in ((None, highest), (highest, built_in), (one_to_three, highest)):
+        assert refusal(credits.better, plans[first], plans[second]) == (17, 0, 0)
+    print('k05 without weights and with the built-in ones: one book; with others: other books')
+    for place, weight in ((0, 0), (1, 1), (1, 1001), (7, 300), (7, 65535)):
+        book.own_weights = one_to_three[:place] + (weight,) + one_to_three[place + 1:]
+        assert refusal(credits.write, book) == (20, 36 + 2 * place)
+        body = b''.join(number.to_bytes(2, 'little') for number in book.own_weights)
+        for call in (credits.read, credits.plan, credits.mark):
+            assert refusal(call, plans[one_to_three][:-16] + body) == (20, 46 + 2 * place)
+    print('weights out of bounds or not rising: refused')
+
+
 def try_refusals():
     k11 = (FOLDER / 'k11.day').read_bytes()
     for file, number, offset in ((b'', 1, 0), (k11[:-1], 6, 25), (k11 + b'\0', 6, 27)):
@@ -162,5 +189,6 @@ try_standard()
 try_better()
 try_first_seats()
 try_balances()
+try_weights()
 try_refusals()
 print('Python: all checks passed')

@@ -18,7 +18,7 @@ pub const SEATS: usize = 32;
 pub const WINDOWS: usize = 24;
 
 /// The longest day file; a buffer of this length takes every file that [`write`] and [`plan`] make.
-pub const FILE_LENGTH: usize = 3288;
+pub const FILE_LENGTH: usize = 3310;
 
 /// The length that the marker asks of its buffer: 31 moves of three bytes.
 pub const MOVES_LENGTH: usize = 93;
@@ -30,7 +30,8 @@ pub const LISTING_LENGTH: usize = 3453;
 pub type Grid = [[u16; WINDOWS]; SEATS];
 
 /// A book in memory, with its sheet if it has one. Entries beyond `seats` and `windows` are not used; [`read`] makes them 0.
-/// Where no seat is named as the first of today's order, seat 1 comes first; where there are no balances, they are zeros.
+/// Where no seat is named as the first of today's order, seat 1 comes first; where there are no balances, they are zeros; and where there
+/// are no weights, they are those of paper 01: 1, 2, 3, 5, 8, 12, 20 and 40.
 #[derive(Clone, Debug, PartialEq, Eq)]
 pub struct Book {
     pub seats: usize,
@@ -43,6 +44,8 @@ pub struct Book {
     pub first: Option<u16>,
     /// Each seat's balance, which is what it received on earlier days.
     pub balances: Option<[u16; SEATS]>,
+    /// The weights of classes 1 to 8, by which levels are divided.
+    pub weights: Option<[u16; 8]>,
 }
 
 /// Why a call turns its input away; the numbers are those of paper 01's table, which paper 02 goes on with.
@@ -68,8 +71,10 @@ pub enum Reason {
     OtherBook = 17,
     /// Checked after `Cap` and before `Balances`.
     FirstSeat = 18,
-    /// Checked after `FirstSeat` and before `NoSheet`.
+    /// Checked after `FirstSeat` and before `Weights`.
     Balances = 19,
+    /// Checked after `Balances` and before `NoSheet`.
+    Weights = 20,
 }
 
 /// A reason and the offset that belongs to it. No byte of any buffer has changed.
@@ -122,7 +127,7 @@ pub enum Mark {
 }
 
 impl Reason {
-    const ALL: [Reason; 19] = [
+    const ALL: [Reason; 20] = [
         Reason::UnderTwoBytes,
         Reason::NumberOfEntries,
         Reason::EndsWithinContents,
@@ -142,6 +147,7 @@ impl Reason {
         Reason::OtherBook,
         Reason::FirstSeat,
         Reason::Balances,
+        Reason::Weights,
     ];
 
     /// The number in the table.
@@ -192,6 +198,7 @@ pub fn read(file: &[u8]) -> Result<Book, Refusal> {
         sheet: (book.has_sheet != 0).then_some(book.sheet),
         first: (book.has_first != 0).then_some(book.first),
         balances: (book.has_balances != 0).then_some(book.balances),
+        weights: (book.has_weights != 0).then_some(book.weights),
     })
 }
 
@@ -209,6 +216,8 @@ pub fn write(book: &Book, out: &mut [u8]) -> Result<usize, Refusal> {
         first: book.first.unwrap_or(0),
         has_balances: book.balances.is_some() as u32,
         balances: book.balances.unwrap_or([0; SEATS]),
+        has_weights: book.weights.is_some() as u32,
+        weights: book.weights.unwrap_or([0; 8]),
     };
     length(raw::write(raw_book, out))
 }

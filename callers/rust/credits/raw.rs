@@ -5,7 +5,8 @@
 use std::mem::offset_of;
 
 /// A book by value. `has_sheet` is 0 where the file has no sheet, and then the sheet's cells are 0; `has_first` is 0 where it names no
-/// first seat, and then `first` is 0; `has_balances` is 0 where it has no balances, and then all of `balances` are 0.
+/// first seat, and then `first` is 0; `has_balances` is 0 where it has no balances, and then all of `balances` are 0; and so with
+/// `has_weights` and `weights`.
 #[derive(Clone, Copy, Debug, PartialEq, Eq)]
 #[repr(C)]
 pub struct Book {
@@ -20,6 +21,8 @@ pub struct Book {
     pub first: u16,
     pub has_balances: u32,
     pub balances: [u16; 32],
+    pub has_weights: u32,
+    pub weights: [u16; 8],
 }
 
 /// Refusal 0 means none; at a refusal the book is all 0.
@@ -64,9 +67,10 @@ pub struct BetterResult {
 }
 
 // The sizes that include/credits.h gives these structs on a 64-bit machine.
-const _: () = assert!(size_of::<Book>() == 3280 && size_of::<ReadResult>() == 3296);
+const _: () = assert!(size_of::<Book>() == 3304 && size_of::<ReadResult>() == 3320);
 const _: () = assert!(offset_of!(Book, has_first) == 3204 && offset_of!(Book, first) == 3208);
 const _: () = assert!(offset_of!(Book, has_balances) == 3212 && offset_of!(Book, balances) == 3216);
+const _: () = assert!(offset_of!(Book, has_weights) == 3280 && offset_of!(Book, weights) == 3284);
 const _: () = assert!(size_of::<MarkResult>() == 32 && size_of::<WriteResult>() == 24);
 const _: () = assert!(size_of::<BetterResult>() == 40);
 

@@ -1,5 +1,5 @@
-//! The wrapper against the library: paper 01's examples, the standard sheet, first seats, balances, refusals, short and empty buffers,
-//! calls side by side.
+//! The wrapper against the library: paper 01's examples, the standard sheet, first seats, balances, weights, refusals, short and empty
+//! buffers, calls side by side.
 
 use super::*;
 
@@ -23,6 +23,7 @@ fn book(supplies: &[u16], caps: &[&[u16]], sheet: Option<&[&[u16]]>) -> Book {
         sheet: sheet.map(grid),
         first: None,
         balances: None,
+        weights: None,
     };
     book.classes[..caps.len()].fill(1);
     book.supplies[..supplies.len()].copy_from_slice(supplies);
@@ -212,6 +213,73 @@ fn balances_that_are_too_high() {
     assert_eq!(out[..length], file_of(&k5(Some(&[0, 4]), None)));
 }
 
+/// 01's weights, the lowest that rise, the highest, and some with which class 2 gets three times what class 1 gets.
+const BUILT_IN: [u16; 8] = [1, 2, 3, 5, 8, 12, 20, 40];
+const LOWEST: [u16; 8] = [1, 2, 3, 4, 5, 6, 7, 8];
+const HIGHEST: [u16; 8] = [993, 994, 995, 996, 997, 998, 999, 1000];
+const ONE_TO_THREE: [u16; 8] = [1, 3, 4, 5, 6, 7, 8, 1000];
+
+/// K5 with these weights.
+fn weighted_k5(weights: Option<[u16; 8]>, sheet: Option<&[&[u16]]>) -> Book {
+    Book { weights, ..k5(None, sheet) }
+}
+
+#[test]
+fn levels_are_by_the_weights_in_force_and_weights_are_kept() {
+    let cases = [(None, [2, 2]), (Some(BUILT_IN), [2, 2]), (Some(HIGHEST), [2, 2]), (Some(ONE_TO_THREE), [1, 3])];
+    for (weights, [one, other]) in cases {
+        let fair = weighted_k5(weights, Some(&[&[one], &[other]]));
+        assert_eq!(planned(&file_of(&weighted_k5(weights, None))), file_of(&fair));
+        assert_eq!(mark(&file_of(&fair)), Ok(Mark::Settled));
+    }
+    // What is settled by paper 01's weights can be improved by others, and the other way round.
+    let chain = |giver, taker| Mark::Improvable { chain: vec![Move { window: 1, giver, taker }] };
+    assert_eq!(mark(&file_of(&weighted_k5(Some(ONE_TO_THREE), Some(&[&[2], &[2]])))), Ok(chain(1, 2)));
+    assert_eq!(mark(&file_of(&weighted_k5(None, Some(&[&[1], &[3]])))), Ok(chain(2, 1)));
+}
+
+#[test]
+fn each_class_gets_by_its_weight() {
+    for weights in [BUILT_IN, LOWEST, HIGHEST, ONE_TO_THREE] {
+        let sum: u16 = weights.iter().sum();
+        let mut fair = book(&[sum / 2, sum - sum / 2], &[&[4095, 4095][..]; 8], None);
+        fair.classes[..8].copy_from_slice(&[1, 2, 3, 4, 5, 6, 7, 8]);
+        let sheet = read(&planned(&file_of(&Book { weights: Some(weights), ..fair }))).unwrap().sheet.unwrap();
+        assert_eq!(sheet.map(|row| row.iter().sum::<u16>())[..8], weights);
+    }
+}
+
+#[test]
+fn weights_that_do_not_rise_within_their_bounds() {
+    let mut out = [0xee; FILE_LENGTH];
+    for (weights, place) in [
+        ([0, 2, 3, 5, 8, 12, 20, 40], 0),
+        ([5, 5, 3, 5, 8, 12, 20, 40], 1),
+        ([7, 2000, 3, 5, 8, 12, 20, 40], 1),
+        ([1, 2, 3, 5, 8, 12, 20, 1001], 7),
+    ] {
+        let sheet: Option<&[&[u16]]> = Some(&[&[9], &[9]]);
+        for (sheet, at) in [(None, 36), (sheet, 46)] {
+            let at = at + 2 * place;
+            assert_eq!(write(&weighted_k5(Some(weights), sheet), &mut out), refused(Reason::Weights, at));
+            let mut file = file_of(&weighted_k5(Some(LOWEST), sheet));
+            file.truncate(file.len() - 16);
+            file.extend(weights.iter().flat_map(|weight| weight.to_le_bytes()));
+            assert_eq!(read(&file), refused(Reason::Weights, at));
+            assert_eq!(mark(&file), refused(Reason::Weights, at));
+            assert_eq!(plan(&file, &mut out), refused(Reason::Weights, at));
+        }
+    }
+    assert!(out.iter().all(|&byte| byte == 0xee));
+    let none = raw::read(&file_of(&weighted_k5(None, None))).book;
+    assert_eq!((none.has_weights, none.weights), (0, [0; 8]));
+    let some = raw::read(&file_of(&weighted_k5(Some(BUILT_IN), None))).book;
+    assert_eq!((some.has_weights, some.weights), (1, BUILT_IN));
+    // Weights that are not there are not looked at.
+    let length = raw::write(raw::Book { weights: [65535; 8], ..none }, &mut out).length;
+    assert_eq!(out[..length], file_of(&weighted_k5(None, None)));
+}
+
 #[test]
 fn files_written_read_back() {
     let mut large = book(&[4095; WINDOWS], &[&[4095; WINDOWS][..]; SEATS], None);
@@ -220,8 +288,10 @@ fn files_written_read_back() {
     for book in [k8(None), k8(K8_SHEET), large, full] {
         for first in [None, Some(1), Some(book.seats as u16)] {
             for balances in [None, Some(row(&[])), Some(row(&[50_000, 1]))] {
-                let book = Book { first, balances, ..book.clone() };
-                assert_eq!(read(&file_of(&book)), Ok(book));
+                for weights in [None, Some(BUILT_IN), Some(HIGHEST)] {
+                    let book = Book { first, balances, weights, ..book.clone() };
+                    assert_eq!(read(&file_of(&book)), Ok(book));
+                }
             }
         }
     }
@@ -289,17 +359,18 @@ fn empty_input_and_empty_buffers() {
     assert_eq!((nothing.seats, nothing.windows, nothing.has_sheet), (0, 0, 0));
     assert_eq!((nothing.has_first, nothing.first), (0, 0));
     assert_eq!((nothing.has_balances, nothing.balances), (0, row(&[])));
+    assert_eq!((nothing.has_weights, nothing.weights), (0, [0; 8]));
     assert_eq!((nothing.caps, nothing.sheet), (grid(&[]), grid(&[])));
 }
 
-/// The file that is chosen. The body must be the caller's own bytes: the last of that file but for those of its first seat and of its
-/// balances.
+/// The file that is chosen. The body must be the caller's own bytes: the last of that file but for those of its first seat, of its
+/// balances and of its weights.
 fn chosen(first: &[u8], second: &[u8]) -> Which {
     let Better { file, body } = better(first, second).unwrap();
     let bytes = if file == Which::First { first } else { second };
     let book = read(bytes).unwrap();
-    let after = 2 * book.first.is_some() as usize + 2 * book.seats * book.balances.is_some() as usize;
-    let end = bytes.len() - after;
+    let fields = [(book.first.is_some(), 1), (book.balances.is_some(), book.seats), (book.weights.is_some(), 8)];
+    let end = bytes.len() - 2 * fields.map(|(there, number)| there as usize * number).iter().sum::<usize>();
     let start = end - 2 * book.seats * book.windows;
     assert_eq!(body.as_ptr_range(), bytes[start..end].as_ptr_range());
     file
@@ -327,6 +398,11 @@ fn the_better_of_two_sheets() {
     assert_eq!((chosen(&zeros, &fair), chosen(&fair, &zeros)), (Which::Second, Which::First));
     let [even, odd] = [[2, 2], [3, 1]].map(|[a, b]| file_of(&k5(Some(&[0, 4]), Some(&[&[a], &[b]]))));
     assert_eq!((chosen(&even, &odd), chosen(&odd, &even)), (Which::Second, Which::First));
+    // The same with weights: paper 01's make no other book.
+    let built_in = file_of(&Book { weights: Some(BUILT_IN), ..read(&spoilt).unwrap() });
+    assert_eq!((chosen(&built_in, &fair), chosen(&fair, &built_in)), (Which::Second, Which::First));
+    let [even, odd] = [[2, 2], [1, 3]].map(|[a, b]| file_of(&weighted_k5(Some(ONE_TO_THREE), Some(&[&[a], &[b]]))));
+    assert_eq!((chosen(&even, &odd), chosen(&odd, &even)), (Which::Second, Which::First));
 }
 
 /// The refusal of a pair of files.
@@ -341,6 +417,8 @@ fn pairs_are_refused_first_file_first() {
     let above_supply = file_of(&k8(Some(&[&[1, 0], &[1, 2], &[0, 3]])));
     let other_book = file_of(&Book { supplies: book(&[1, 4], &[], None).supplies, ..k8(K8_SHEET) });
     let other_balances = file_of(&Book { balances: Some(row(&[0, 0, 1])), ..k8(K8_SHEET) });
+    // Of classes that no seat has, too.
+    let other_weights = file_of(&Book { weights: Some([1, 2, 3, 5, 8, 12, 20, 41]), ..k8(K8_SHEET) });
     let (first, second) = (Some(Which::First), Some(Which::Second));
     assert_eq!(pair_refusal(&[], &[]), (first, Reason::UnderTwoBytes, 0));
     assert_eq!(pair_refusal(&above_supply, &[4]), (first, Reason::WindowAboveSupply, 32));
@@ -349,6 +427,7 @@ fn pairs_are_refused_first_file_first() {
     assert_eq!(pair_refusal(&other_book, &above_supply), (second, Reason::WindowAboveSupply, 32));
     assert_eq!(pair_refusal(&file, &other_book), (None, Reason::OtherBook, 0));
     assert_eq!(pair_refusal(&other_balances, &file), (None, Reason::OtherBook, 0));
+    assert_eq!(pair_refusal(&other_weights, &file), (None, Reason::OtherBook, 0));
     let texts = [(&[][..], &file[..]), (&file, &[]), (&file, &other_book)];
     let texts = texts.map(|(first, second)| better(first, second).unwrap_err().to_string());
     assert_eq!(texts, ["first file: refused 1 at 0", "second file: refused 1 at 0", "both files: refused 17 at 0"]);
