@@ -33,7 +33,7 @@ mod timing;
 #[path = "bench/worst.rs"]
 mod worst;
 
-use books::{file_of, planned, spoilt, windows_alone, with_first, Change, Draw, BALANCES, KINDS};
+use books::{file_of, planned, spoilt, windows_alone, with_first, Change, Draw, BALANCES, KINDS, TABLES};
 use reference::{Book, Sheet, FILE_LENGTH};
 use rng::Rng;
 use same_method::Counts;
@@ -69,6 +69,7 @@ fn all_tables() {
     first_table(&mut csv);
     count_settling("the first seat changes", with_first);
     balances_table(&mut csv);
+    weights_table(&mut csv);
     mark_table(&mut csv);
     better_table(&mut csv);
     file_table(&mut csv);
@@ -167,24 +168,56 @@ fn first_table(csv: &mut String) {
     println!("{}", agreement(with_first));
 }
 
+/// A table of calls on books with something added. The last column is the library on the same books without it.
+struct Beside {
+    table: &'static str,
+    title: &'static str,
+    names: &'static [&'static str],
+    times: fn(Draw, Change) -> Times,
+}
+
+const PLANNED_WITHOUT: [&str; 4] = ["library", "plain Rust", "other method", "without them"];
+const MARKED_WITHOUT: [&str; 3] = ["library", "plain Rust", "without them"];
+
+impl Beside {
+    /// A line for each way to add something and each kind of book. Gives the least and the most that the library takes over what it takes
+    /// without.
+    fn lines(&self, csv: &mut String, ways: &[(&str, Change)]) -> String {
+        heading(self.title, self.names);
+        let mut ratios = Vec::new();
+        for ((way, add), (kind, draw)) in ways.iter().flat_map(|way| KINDS.map(|kind| (way, kind))) {
+            let times = (self.times)(draw, *add);
+            line(csv, self.table, &format!("{way}: {kind}"), self.names, &times);
+            let medians = times.medians();
+            ratios.push(medians[0] / medians[medians.len() - 1]);
+        }
+        ratios.sort_by(f64::total_cmp);
+        format!("{:.2} to {:.2}", ratios[0], ratios[ratios.len() - 1])
+    }
+}
+
 /// Planning books with balances of each kind, beside the same books without them.
 fn balances_table(csv: &mut String) {
-    let names = ["library", "plain Rust", "other method", "without them"];
-    heading("plan, with balances", &names);
-    let mut ratios = Vec::new();
-    for (balances, add) in BALANCES {
-        for (kind, draw) in KINDS {
-            let times = times_with(draw, add);
-            line(csv, "balances", &format!("{balances}: {kind}"), &names, &times);
-            let medians = times.medians();
-            ratios.push(medians[0] / medians[3]);
-        }
-    }
-    let (least, most) = (ratios.iter().copied().fold(f64::MAX, f64::min), ratios.iter().copied().fold(0.0, f64::max));
-    println!("With balances the library takes {least:.2} to {most:.2} times as long as without them.");
+    let (table, title) = ("balances", "plan, with balances");
+    let ratios = Beside { table, title, names: &PLANNED_WITHOUT, times: times_with }.lines(csv, &BALANCES);
+    println!("With balances the library takes {ratios} times as long as without them.");
     for (balances, add) in BALANCES {
         println!("Balances {balances}. {}", agreement(add));
         count_settling("balances change", add);
+    }
+}
+
+/// Planning and marking books with each table of weights, beside the same books without it.
+fn weights_table(csv: &mut String) {
+    let (table, title) = ("weights", "plan, with own weights");
+    let ratios = Beside { table, title, names: &PLANNED_WITHOUT, times: times_with }.lines(csv, &TABLES);
+    println!("With own weights the library plans in {ratios} times what it takes without them.");
+    let (table, title) = ("weighed", "mark of a plan, with own weights");
+    let ratios = Beside { table, title, names: &MARKED_WITHOUT, times: mark_times_with }.lines(csv, &TABLES);
+    println!("With own weights the library marks in {ratios} times what it takes without them.");
+    for (weights, add) in TABLES {
+        println!("Weights: {weights}. {}", agreement(add));
+        count_settling("weights change", add);
     }
 }
 
@@ -269,6 +302,21 @@ fn markers(file: &[u8]) -> Vec<Call<'_>> {
     ]
 }
 
+/// Markers on planned sheets of full-size books of one kind with something added; the last is the library on the same books without it.
+fn mark_times_with(draw: Draw, add: Change) -> Times {
+    let mut rng = Rng::new(11);
+    let mut times = Times::default();
+    for _ in 0..BOOKS {
+        let book = draw(&mut rng, 32, 24);
+        let with = add(&mut rng, book.clone());
+        let [file, without] = [with, book].map(|book| file_of(&book, Some(&planned(&book))));
+        let mut calls = markers(&file);
+        calls.extend(markers(&without).into_iter().take(1));
+        times.add(side_by_side(&mut calls, ROUNDS, 8));
+    }
+    times
+}
+
 /// A sheet with a chain, a few moves away from a settled one.
 fn nearly_settled(rng: &mut Rng, book: &Book) -> Sheet {
     let settled = planned(book);
@@ -349,6 +397,7 @@ fn file_table(csv: &mut String) {
         let book = books::dense(&mut rng, 32, 24);
         let book = with_first(&mut rng, book);
         let book = BALANCES[0].1(&mut rng, book);
+        let book = TABLES[0].1(&mut rng, book);
         let sheet = planned(&book);
         let file = file_of(&book, Some(&sheet));
         let same = credits::raw::read(&file).book;
@@ -369,7 +418,7 @@ fn file_table(csv: &mut String) {
         writing.add(side_by_side(&mut writers, ROUNDS, 32));
     }
     let names = ["library", "plain Rust"];
-    heading("the longest file, 3,288 bytes", &names);
+    heading("the longest file, 3,310 bytes", &names);
     line(csv, "file", "read", &names, &reading);
     line(csv, "file", "write", &names, &writing);
 }

@@ -1,7 +1,9 @@
 //! Random books and sheets for comparing and timing.
 #![allow(dead_code)]
 
-use super::reference::{plan, read, write, Book, Sheet, FILE_LENGTH, MOST_BALANCE, SEATS, WINDOWS};
+use super::reference::{
+    plan, read, write, Book, Sheet, FILE_LENGTH, MOST_BALANCE, MOST_CREDITS, MOST_WEIGHT, SEATS, WEIGHTS, WINDOWS,
+};
 use super::rng::Rng;
 
 /// Draws a book with that many seats and windows.
@@ -98,16 +100,21 @@ fn with_balances(rng: &mut Rng, book: Book, balance: impl Fn(&mut Rng) -> usize)
     Book { balances: Some(balances), ..book }
 }
 
+/// Any balances from `least` to `most`.
+fn balances_between(rng: &mut Rng, book: Book, least: usize, most: usize) -> Book {
+    with_balances(rng, book, |rng| rng.between(least, most))
+}
+
 /// Balances about as high as the seats' totals are: up to twice an even share of all supplies.
 fn near_balances(rng: &mut Rng, book: Book) -> Book {
     let supplies: usize = book.supplies[..book.windows].iter().map(|&supply| supply as usize).sum();
     let most = (2 * supplies / book.seats).min(MOST_BALANCE as usize);
-    with_balances(rng, book, |rng| rng.between(0, most))
+    balances_between(rng, book, 0, most)
 }
 
 /// Any balances, up to the highest.
 fn any_balances(rng: &mut Rng, book: Book) -> Book {
-    with_balances(rng, book, |rng| rng.between(0, MOST_BALANCE as usize))
+    balances_between(rng, book, 0, MOST_BALANCE as usize)
 }
 
 /// One seat in four carries much, which puts it above all others; these carry nothing.
@@ -120,7 +127,45 @@ fn large_balances(rng: &mut Rng, book: Book) -> Book {
 pub fn close_balances(rng: &mut Rng, book: Book) -> Book {
     let apart = rng.below(4);
     let least = if rng.once_in(4) { MOST_BALANCE as usize - apart } else { 0 };
-    with_balances(rng, book, |rng| rng.between(least, least + apart))
+    balances_between(rng, book, least, least + apart)
+}
+
+/// The tables of weights that are timed, by name.
+pub const TABLES: [(&str, Change); 4] =
+    [("paper 01's", same_weights), ("1 to 8", lowest_weights), ("993 to 1000", highest_weights), ("any", any_weights)];
+
+/// The same book with any weights from `least` to `most`.
+pub fn with_weights(rng: &mut Rng, book: Book, least: usize, most: usize) -> Book {
+    Book { weights: Some(rng.rising(least, most)), ..book }
+}
+
+/// The weights that the book has anyway.
+fn same_weights(_: &mut Rng, book: Book) -> Book {
+    Book { weights: Some(WEIGHTS), ..book }
+}
+
+/// The lowest weights that rise.
+fn lowest_weights(rng: &mut Rng, book: Book) -> Book {
+    with_weights(rng, book, 1, 8)
+}
+
+/// The highest weights that rise, which are nearly equal.
+fn highest_weights(rng: &mut Rng, book: Book) -> Book {
+    with_weights(rng, book, MOST_WEIGHT as usize - 7, MOST_WEIGHT as usize)
+}
+
+/// Any weights.
+fn any_weights(rng: &mut Rng, book: Book) -> Book {
+    with_weights(rng, book, 1, MOST_WEIGHT as usize)
+}
+
+/// Few seats whose heights and weights can be as great as there are: 148,280 credits, and 1,000.
+pub fn greatest(rng: &mut Rng) -> Book {
+    let seats = rng.between(2, 4);
+    let mut book = full_caps(rng, seats, WINDOWS);
+    book.supplies.fill(MOST_CREDITS);
+    let book = balances_between(rng, book, MOST_BALANCE as usize - 3, MOST_BALANCE as usize);
+    highest_weights(rng, book)
 }
 
 /// The file of a book, with or without a sheet.

@@ -35,15 +35,17 @@ const FILES: usize = 200_000;
 /// From this many files on, every refusal, every mark and every outcome must have come up.
 const ENOUGH: usize = 20_000;
 
-/// What was met so far: refusals and marks by number, what first seats, balances and the step to the standard sheet did to plans, and what
-/// came of pairs.
+/// What was met so far: refusals and marks by number, the ways to meet line 20, what first seats, balances, weights and the step to the
+/// standard sheet did to plans, and what came of pairs.
 #[derive(Default)]
 pub struct Seen {
-    refusals: [usize; 20],
+    refusals: [usize; 21],
+    line_20: [usize; calls::LINE_20.len()],
     marks: [usize; 5],
     longest_chain: u32,
     first_seats: [usize; calls::FIRST_SEATS.len()],
     balances: [usize; calls::BALANCES.len()],
+    weights: [usize; calls::WEIGHTS.len()],
     standards: [usize; calls::STANDARDS.len()],
     pairs: [usize; pairs::OUTCOMES.len()],
 }
@@ -72,8 +74,9 @@ fn main() -> ExitCode {
 
 impl Seen {
     fn lacks_something(&self) -> bool {
-        let counts = self.refusals[1..].iter().chain(&self.marks[1..]);
-        let counts = counts.chain(&self.first_seats).chain(&self.balances).chain(&self.standards).chain(&self.pairs);
+        let counts = self.refusals[1..].iter().chain(&self.line_20).chain(&self.marks[1..]);
+        let counts = counts.chain(&self.first_seats).chain(&self.balances).chain(&self.weights);
+        let counts = counts.chain(&self.standards).chain(&self.pairs);
         counts.copied().min() == Some(0)
     }
 }
@@ -83,10 +86,12 @@ fn report(seen: &Seen) {
         let counted = names.iter().zip(counts).map(|(name, count)| format!("{name} {count}"));
         counted.collect::<Vec<_>>().join(", ")
     };
-    println!("refusals by number, 1 to 19: {:?}", &seen.refusals[1..]);
+    println!("refusals by number, 1 to 20: {:?}", &seen.refusals[1..]);
+    println!("files refused by 20: {}", by_name(&calls::LINE_20, &seen.line_20));
     println!("marks by number: {:?}, the longest chain with {} moves", &seen.marks[1..], seen.longest_chain);
     println!("planned: {}", by_name(&calls::FIRST_SEATS, &seen.first_seats));
     println!("planned: {}", by_name(&calls::BALANCES, &seen.balances));
+    println!("planned: {}", by_name(&calls::WEIGHTS, &seen.weights));
     println!("standard sheets: {}", by_name(&calls::STANDARDS, &seen.standards));
     println!("pairs: {}", by_name(&pairs::OUTCOMES, &seen.pairs));
 }

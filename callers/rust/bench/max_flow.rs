@@ -1,10 +1,10 @@
 //! A planner by maximum flow and bisection, as one would write it over a library's `max_flow`: a network from a source over
 //! seats and windows to a sink, and per level as many flows as it takes to find the highest level that all open seats can have.
 
-use super::reference::{read, write, Book, Refusal, Sheet, SEATS, WEIGHTS, WINDOWS};
+use super::reference::{read, write, Book, Refusal, Sheet, MOST_WEIGHT, SEATS, WINDOWS};
 
-/// A multiple of every weight: a level times this is a whole number.
-const UNITS: u64 = 120;
+/// Two levels that differ do so by one of this many units or more.
+const FINEST: u64 = MOST_WEIGHT as u64 * MOST_WEIGHT as u64;
 
 /// Plans the book of a day file and writes the whole file with the planned sheet to the front of `out`.
 pub fn plan(file: &[u8], out: &mut [u8]) -> Result<usize, Refusal> {
@@ -98,9 +98,27 @@ impl Network {
     }
 }
 
+/// The least multiple of all weights, in which levels are whole numbers; or the finest units, where that is less.
+fn units(weights: &[u16; 8]) -> u64 {
+    weights.iter().fold(1, |units, &weight| {
+        let weight = weight as u64;
+        (units * weight / common_divisor(units, weight)).min(FINEST)
+    })
+}
+
+/// The greatest number that divides both.
+fn common_divisor(mut number: u64, mut other: u64) -> u64 {
+    while other > 0 {
+        (number, other) = (other, number % other);
+    }
+    number
+}
+
 /// What each seat may have; a closed seat keeps it.
 struct Levels<'a> {
     book: &'a Book,
+    /// Levels count in so many units, rounded down: so many that no two levels become equal.
+    units: u64,
     weights: [u64; SEATS],
     balances: [u64; SEATS],
     totals: [u64; SEATS],
@@ -111,11 +129,12 @@ impl<'a> Levels<'a> {
     fn new(book: &'a Book) -> Levels<'a> {
         let mut weights = [1; SEATS];
         for seat in 0..book.seats {
-            weights[seat] = WEIGHTS[book.classes[seat] as usize - 1] as u64;
+            weights[seat] = book.weight(seat) as u64;
         }
         let mut open = [false; SEATS];
         open[..book.seats].fill(true);
-        Levels { book, weights, balances: book.carried().map(u64::from), totals: [0; SEATS], open }
+        let units = units(&book.table());
+        Levels { book, units, weights, balances: book.carried().map(u64::from), totals: [0; SEATS], open }
     }
 
     /// Raises all open seats to the highest level that all can have, gives single credits in order to those that can have
@@ -134,7 +153,7 @@ impl<'a> Levels<'a> {
     fn at_level(&self, level: u64) -> [u64; SEATS] {
         let mut totals = self.totals;
         for seat in (0..self.book.seats).filter(|&seat| self.open[seat]) {
-            totals[seat] = (level * self.weights[seat]).div_ceil(UNITS).saturating_sub(self.balances[seat]);
+            totals[seat] = (level * self.weights[seat]).div_ceil(self.units).saturating_sub(self.balances[seat]);
         }
         totals
     }
@@ -159,13 +178,13 @@ impl<'a> Levels<'a> {
     fn out_of_reach(&self, seat: usize) -> u64 {
         let most: u64 =
             self.book.caps[seat].iter().zip(&self.book.supplies).map(|(cap, supply)| *cap.min(supply) as u64).sum();
-        (self.balances[seat] + most + 1) * UNITS / self.weights[seat]
+        (self.balances[seat] + most + 1) * self.units / self.weights[seat]
     }
 
     /// One more credit for each open seat that stands at this level, the lower weight and the seat that is earlier today first.
     fn give_next(&mut self, level: u64) {
         let mut seats: Vec<usize> = (0..self.book.seats).filter(|&seat| self.open[seat]).collect();
-        seats.retain(|&seat| (self.balances[seat] + self.totals[seat]) * UNITS == level * self.weights[seat]);
+        seats.retain(|&seat| (self.balances[seat] + self.totals[seat]) * self.units / self.weights[seat] == level);
         seats.sort_by_key(|&seat| (self.weights[seat], self.book.place(seat)));
         for seat in seats {
             self.totals[seat] += 1;

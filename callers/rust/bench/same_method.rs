@@ -5,7 +5,7 @@
 //! exchange path, many credits at once: first only where 64 or more can go, then down to single credits. Then the marker's search
 //! looks for an exchange that is left, and plays it, until there is none. At last the settled sheet is made standard.
 
-use super::reference::{read, write, Book, Refusal, Sheet, SEATS, WEIGHTS, WINDOWS};
+use super::reference::{read, write, Book, Refusal, Sheet, SEATS, WINDOWS};
 use super::same_standard::{standard, totals, Work};
 
 /// Plans the book of a day file and writes the whole file with the standard sheet to the front of `out`.
@@ -73,7 +73,7 @@ impl<'a> Desk<'a> {
         let first = book.first.unwrap_or(1) as usize;
         let (mut weights, mut positions) = ([1; SEATS], [0; SEATS]);
         for seat in 0..book.seats {
-            weights[seat] = WEIGHTS[book.classes[seat] as usize - 1] as u64;
+            weights[seat] = book.weight(seat) as u64;
             positions[seat] = if seat + 1 < first { book.seats + seat } else { seat };
         }
         Desk {

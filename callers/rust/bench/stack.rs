@@ -2,7 +2,7 @@
 
 use std::arch::asm;
 
-use super::books::{file_of, planned, windows_alone, with_first, BALANCES, KINDS};
+use super::books::{file_of, planned, windows_alone, with_first, BALANCES, KINDS, TABLES};
 use super::rng::Rng;
 use super::{credits, LADDER};
 
@@ -44,10 +44,11 @@ pub fn report() {
     let mut rng = Rng::new(19);
     let mut files = vec![LADDER.to_vec()];
     for (_, draw) in KINDS {
-        for (_, add_balances) in BALANCES {
+        for ((_, add_balances), (_, add_weights)) in BALANCES.into_iter().zip(TABLES.into_iter().skip(1)) {
             let book = draw(&mut rng, 32, 24);
             let book = with_first(&mut rng, book);
             let book = add_balances(&mut rng, book);
+            let book = add_weights(&mut rng, book);
             files.extend([planned(&book), windows_alone(&book, 0)].map(|sheet| file_of(&book, Some(&sheet))));
         }
     }

@@ -6,9 +6,9 @@
 
 use std::time::{Duration, Instant};
 
-use super::books::{file_of, BALANCES};
+use super::books::{file_of, BALANCES, TABLES};
 use super::credits;
-use super::reference::{Book, FILE_LENGTH, MOST_BALANCE, MOST_CREDITS, SEATS};
+use super::reference::{Book, FILE_LENGTH, MOST_BALANCE, MOST_CREDITS, MOST_WEIGHT, SEATS};
 use super::rng::Rng;
 use super::same_method::{counts, Counts};
 use super::timing::median;
@@ -31,11 +31,12 @@ fn raising(counts: &Counts) -> usize {
     counts.work.searches + counts.work.pushes + SLOW * counts.work.left
 }
 
-/// How many books the search has met, how many of them have balances, and on how many the slow parts had something to do.
+/// How many books the search has met, how many of them have balances and weights, and on how many the slow parts had something to do.
 #[derive(Default)]
 struct Met {
     books: usize,
     with_balances: usize,
+    with_weights: usize,
     settling: usize,
     raising: usize,
 }
@@ -62,7 +63,7 @@ pub fn search(seconds: u64) {
             std::fs::write("target/worst.day", file_of(&book, None)).expect("target/worst.day");
         }
     }
-    println!("{} books, {} of them with balances", met.books, met.with_balances);
+    println!("{} books, {} of them with balances, {} with weights", met.books, met.with_balances, met.with_weights);
     println!("settling had something to do on {} of them", met.settling);
     println!("the fast pass to the standard sheet left something on {}", met.raising);
     println!("longest plan found: {longest:.0} µs, target/worst.day");
@@ -75,7 +76,7 @@ fn took(book: &Book) -> String {
 }
 
 /// A book with caps and supplies of any size: how high, how many and how scarce is drawn for the whole book. Half of the books name a first
-/// seat, and half have balances.
+/// seat, half have balances, and half have weights.
 fn any_book(rng: &mut Rng) -> Book {
     let mut book = Book::empty(32, 24);
     let (highest, one_in, sixteenths) = (1 << rng.below(13), rng.between(1, 8), rng.between(1, 16));
@@ -92,10 +93,12 @@ fn any_book(rng: &mut Rng) -> Book {
     }
     book.first = rng.once_in(2).then(|| rng.between(1, 32) as u16);
     if rng.once_in(2) {
-        BALANCES[rng.below(BALANCES.len())].1(rng, book)
-    } else {
-        book
+        book = BALANCES[rng.below(BALANCES.len())].1(rng, book);
     }
+    if rng.once_in(2) {
+        book = TABLES[rng.below(TABLES.len())].1(rng, book);
+    }
+    book
 }
 
 /// A book of one class in which few totals differ: there is so little that no seat's caps keep it below the others.
@@ -126,6 +129,7 @@ impl Met {
         let counts = counts(book);
         self.books += 1;
         self.with_balances += book.balances.is_some() as usize;
+        self.with_weights += book.weights.is_some() as usize;
         self.settling += (counts.turns[2] > 0) as usize;
         self.raising += (counts.work.left > 0) as usize;
         cost(&counts)
@@ -149,13 +153,17 @@ fn climb(rng: &mut Rng, met: &mut Met, cost: Cost, mut book: Book, end: Instant)
     (book, changes)
 }
 
-/// Another class, supply, cap, first seat or, where there are balances, balance; or two seats' caps in a window the other way round.
+/// Another class, supply, cap, first seat or, where there are balances or weights, one of these; or two seats' caps in a window the other
+/// way round.
 fn change(rng: &mut Rng, book: &mut Book) {
     let (seat, other, window) = (rng.below(book.seats), rng.below(book.seats), rng.below(book.windows));
     let cap = book.caps[seat][window];
     if let Some(balances) = book.balances.as_mut().filter(|_| rng.once_in(5)) {
         balances[seat] = credits_near(rng, balances[seat], MOST_BALANCE);
         return;
+    }
+    if let Some(weights) = book.weights.as_mut().filter(|_| rng.once_in(8)) {
+        return change_weight(rng, weights);
     }
     match rng.below(9) {
         0 => book.classes[seat] = rng.between(1, 8) as u16,
@@ -166,6 +174,14 @@ fn change(rng: &mut Rng, book: &mut Book) {
         5 => book.first = Some(seat as u16 + 1),
         _ => book.caps[seat][window] = credits_near(rng, cap, MOST_CREDITS),
     }
+}
+
+/// Any weight for one class, between those of its neighbours.
+fn change_weight(rng: &mut Rng, weights: &mut [u16; 8]) {
+    let class = rng.below(8);
+    let least = if class == 0 { 1 } else { weights[class - 1] + 1 };
+    let most = if class == 7 { MOST_WEIGHT } else { weights[class + 1] - 1 };
+    weights[class] = rng.between(least as usize, most as usize) as u16;
 }
 
 /// Any number of credits, or one that is near.

@@ -4,7 +4,9 @@ use super::books;
 use super::buffer::Buffer;
 use super::chain::{self, moves, totals, Bytes};
 use super::credits::raw;
-use super::reference::{self, settled_sheet, Book, Refusal, Sheet, FILE_LENGTH, MOVES_LENGTH, SEATS, WINDOWS};
+use super::reference::{
+    self, settled_sheet, Book, Refusal, Sheet, FILE_LENGTH, MOST_WEIGHT, MOVES_LENGTH, SEATS, WINDOWS,
+};
 use super::rng::Rng;
 use super::Seen;
 
@@ -23,7 +25,13 @@ pub const NOTHING: raw::Book = raw::Book {
     first: 0,
     has_balances: 0,
     balances: [0; SEATS],
+    has_weights: 0,
+    weights: [0; 8],
 };
+
+/// How a file meets line 20, by place in the count: the length of the weights, or the first weight that is wrong.
+pub const LINE_20: [&str; 5] =
+    ["length", "weight 0", "weight above 1000", "weight equal to the one before", "weight below the one before"];
 
 /// What a planned file's first seat can do, by place in the count.
 pub const FIRST_SEATS: [&str; 3] =
@@ -33,11 +41,15 @@ pub const FIRST_SEATS: [&str; 3] =
 pub const BALANCES: [&str; 4] =
     ["without balances", "with zeros", "with some that change no total", "with some that change totals"];
 
+/// What a planned file's own weights can do, by place in the count.
+pub const WEIGHTS: [&str; 4] =
+    ["without weights", "with those of paper 01", "with others that change no total", "with others that change totals"];
+
 /// Whether the plain version's settled sheet had other cells before it was made standard, by place in the count.
 pub const STANDARDS: [&str; 2] = ["as first settled", "with other cells than first settled"];
 
 pub fn all(rng: &mut Rng, seen: &mut Seen, file: &[u8]) -> Result<(), String> {
-    read(file)?;
+    read(seen, file)?;
     mark(rng, seen, file)?;
     plan(rng, seen, file)?;
     listing(rng, file)
@@ -66,15 +78,32 @@ pub fn raw_book(book: &Book, sheet: Option<&Sheet>) -> raw::Book {
         first: book.first.unwrap_or(0),
         has_balances: book.balances.is_some() as u32,
         balances: book.carried(),
+        has_weights: book.weights.is_some() as u32,
+        weights: book.weights.unwrap_or(NOTHING.weights),
     }
 }
 
-fn read(file: &[u8]) -> Result<(), String> {
+fn read(seen: &mut Seen, file: &[u8]) -> Result<(), String> {
     let plain = match reference::read(file) {
         Ok((book, sheet)) => raw::ReadResult { refusal: 0, offset: 0, book: raw_book(&book, sheet.as_ref()) },
         Err(refusal) => raw::ReadResult { refusal: refusal.number, offset: refusal.offset, book: NOTHING },
     };
+    if plain.refusal == 20 {
+        seen.line_20[how_20_is_met(file, plain.offset)] += 1;
+    }
     same("read", raw::read(file), plain)
+}
+
+/// How a file meets line 20 at an offset, which is a length field of the contents or a weight.
+fn how_20_is_met(file: &[u8], offset: usize) -> usize {
+    let field = |at: usize| u16::from_le_bytes([file[at], file[at + 1]]);
+    match field(offset) {
+        _ if offset < 2 + 6 * field(0) as usize => 0,
+        0 => 1,
+        weight if weight > MOST_WEIGHT => 2,
+        weight if weight == field(offset - 2) => 3,
+        _ => 4,
+    }
 }
 
 fn mark(rng: &mut Rng, seen: &mut Seen, file: &[u8]) -> Result<(), String> {
@@ -131,7 +160,7 @@ fn plan(rng: &mut Rng, seen: &mut Seen, file: &[u8]) -> Result<(), String> {
     Ok(())
 }
 
-/// The library gives its own plan mark 4. Counts what the first seat, balances and the step to the standard sheet did to the plan.
+/// The library gives its own plan mark 4. Counts what the first seat, balances, weights and the step to the standard sheet did to the plan.
 fn check_plan(seen: &mut Seen, planned: &[u8]) -> Result<(), String> {
     let settled = raw::MarkResult { refusal: 0, offset: 0, mark: 4, window: 0, seat: 0, moves: 0 };
     same("plan: the mark", raw::mark(planned, &mut [0; MOVES_LENGTH]), settled)?;
@@ -140,6 +169,7 @@ fn check_plan(seen: &mut Seen, planned: &[u8]) -> Result<(), String> {
     };
     seen.first_seats[what_first_does(&book, &sheet)] += 1;
     seen.balances[what_balances_do(&book, &sheet)] += 1;
+    seen.weights[what_weights_do(&book, &sheet)] += 1;
     seen.standards[(settled_sheet(&book) != sheet) as usize] += 1;
     Ok(())
 }
@@ -158,6 +188,15 @@ fn what_balances_do(book: &Book, settled: &Sheet) -> usize {
         None => 0,
         Some(balances) if balances == NOTHING.balances => 1,
         _ => 2 + has_other_totals(&Book { balances: None, ..book.clone() }, settled) as usize,
+    }
+}
+
+/// Whether the book has weights, whether any is not paper 01's, and whether its settled totals are others than those without them.
+fn what_weights_do(book: &Book, settled: &Sheet) -> usize {
+    match book.weights {
+        None => 0,
+        Some(weights) if weights == reference::WEIGHTS => 1,
+        _ => 2 + has_other_totals(&Book { weights: None, ..book.clone() }, settled) as usize,
     }
 }
 

@@ -1,7 +1,7 @@
 //! What holds of every written chain, by the rules of paper 01.
 
 use super::books::hand_over;
-use super::reference::{Book, Sheet, WEIGHTS};
+use super::reference::{Book, Sheet};
 
 /// A move in three bytes: window, giver and taker, counted from 1.
 pub type Bytes = [u8; 3];
@@ -62,12 +62,13 @@ pub fn totals(book: &Book, sheet: &Sheet) -> Vec<u32> {
     sheet[..book.seats].iter().map(|row| row[..book.windows].iter().map(|&cell| cell as u32).sum()).collect()
 }
 
-/// The levels, lowest first, all times 120, which is a multiple of every weight.
-pub fn list(book: &Book, sheet: &Sheet) -> Vec<u32> {
+/// The levels, lowest first, all times a million and rounded down. Two that differ do so by a millionth or more, since no weight is above
+/// 1,000, and so the whole numbers are in the same order.
+pub fn list(book: &Book, sheet: &Sheet) -> Vec<u64> {
     let (balances, totals) = (book.carried(), totals(book, sheet));
-    let weight = |seat: usize| WEIGHTS[book.classes[seat] as usize - 1] as u32;
-    let level = |seat: usize| (balances[seat] as u32 + totals[seat]) * 120 / weight(seat);
-    let mut levels: Vec<u32> = (0..book.seats).map(level).collect();
+    let height = |seat: usize| balances[seat] as u64 + totals[seat] as u64;
+    let mut levels: Vec<u64> =
+        (0..book.seats).map(|seat| height(seat) * 1_000_000 / book.weight(seat) as u64).collect();
     levels.sort();
     levels
 }

@@ -1,6 +1,9 @@
 //! Day files: accepted ones, damaged ones and noise.
 
-use super::books::{close_balances, file_of, planned, same_totals, spoilt, windows_alone, with_first, BALANCES, KINDS};
+use super::books::{
+    close_balances, file_of, greatest, planned, same_totals, spoilt, windows_alone, with_first, with_weights, BALANCES,
+    KINDS, TABLES,
+};
 use super::reference::{Book, Sheet, SEATS, WINDOWS};
 use super::rng::Rng;
 
@@ -10,7 +13,8 @@ const LADDER: &[u8] = include_bytes!("../../../examples/full-ladder.day");
 pub const NO_CREDITS: Sheet = [[0; WINDOWS]; SEATS];
 
 /// Values at which something changes.
-const EDGES: [u16; 20] = [0, 1, 2, 3, 4, 5, 6, 7, 8, 9, 24, 26, 48, 50, 64, 66, 4095, 4096, 50_000, 50_001];
+const EDGES: [u16; 23] =
+    [0, 1, 2, 3, 4, 5, 6, 7, 8, 9, 16, 24, 26, 48, 50, 64, 66, 1000, 1001, 4095, 4096, 50_000, 50_001];
 
 pub fn draw(rng: &mut Rng) -> Vec<u8> {
     match rng.below(12) {
@@ -34,8 +38,11 @@ pub fn size(rng: &mut Rng) -> (usize, usize) {
     }
 }
 
-/// Any kind of book, half of them with a first seat, and half with balances.
+/// Any kind of book, half of them with a first seat, half with balances, and half with weights; and some with the greatest numbers.
 pub fn book(rng: &mut Rng) -> Book {
+    if rng.once_in(24) {
+        return greatest(rng);
+    }
     let (seats, windows) = size(rng);
     let mut book = KINDS[rng.below(KINDS.len())].1(rng, seats, windows);
     if rng.once_in(2) {
@@ -46,7 +53,8 @@ pub fn book(rng: &mut Rng) -> Book {
         book.classes.iter_mut().for_each(|class| *class = (*class).min(last_class as u16));
     }
     let book = any_first(rng, book);
-    any_balances(rng, book)
+    let book = any_balances(rng, book);
+    any_weights(rng, book)
 }
 
 /// Half of the books name a first seat, which is any of theirs.
@@ -67,10 +75,19 @@ pub fn any_balances(rng: &mut Rng, book: Book) -> Book {
     }
 }
 
+/// Half of the books have weights: low ones with which levels are often equal, or of a kind that is timed.
+pub fn any_weights(rng: &mut Rng, book: Book) -> Book {
+    match rng.below(10) {
+        0..=4 => Book { weights: None, ..book },
+        5 => with_weights(rng, book, 1, 12),
+        kind => TABLES[kind - 6].1(rng, book),
+    }
+}
+
 /// A sheet as one may hand it in.
 pub fn sheet(rng: &mut Rng, book: &Book) -> Sheet {
     let first = rng.below(book.seats);
-    match rng.below(14) {
+    match rng.below(15) {
         0 => planned(book),
         1 => windows_alone(book, first),
         2 => spoilt(rng, book, &windows_alone(book, first), 100, 100),
@@ -86,6 +103,8 @@ pub fn sheet(rng: &mut Rng, book: &Book) -> Sheet {
         11 => same_totals(rng, book, &planned(book)),
         // Settled with other balances, or with none.
         12 => planned(&any_balances(rng, book.clone())),
+        // Settled with other weights, or with those of paper 01.
+        13 => planned(&any_weights(rng, book.clone())),
         _ => with_other_cells(rng, book, &NO_CREDITS),
     }
 }
@@ -112,20 +131,22 @@ fn accepted(rng: &mut Rng) -> Vec<u8> {
     file_of(&book, sheet.as_ref())
 }
 
-/// A file with bytes flipped, fields changed (the last one, too, which may be the first seat or a balance), its end cut off or grown.
+/// A file with bytes flipped, fields changed (the last ones, too, which may be the first seat, balances or weights), its end cut off or
+/// grown.
 pub fn damaged(rng: &mut Rng, mut file: Vec<u8>) -> Vec<u8> {
     for _ in 0..rng.between(1, 3) {
         let length = file.len();
         if length < 2 {
             break;
         }
-        match rng.below(7) {
+        match rng.below(8) {
             0 => file[rng.below(length)] ^= 1 << rng.below(8),
             1 => set_field(&mut file, 2 * rng.below(length / 2), EDGES[rng.below(EDGES.len())]),
-            2 => set_field(&mut file, 2 * rng.below(19.min(length / 2)), rng.below(65536) as u16),
+            2 => set_field(&mut file, 2 * rng.below(22.min(length / 2)), rng.below(65536) as u16),
             3 => file.truncate(rng.below(length + 1)),
             4 => file.truncate(length - rng.between(1, 2)),
             5 => set_field(&mut file, length - 2, EDGES[rng.below(EDGES.len())]),
+            6 => set_field(&mut file, length - 2 * rng.between(1, 8.min(length / 2)), rng.below(1002) as u16),
             _ => file.extend(vec![rng.below(256) as u8; rng.between(1, 3)]),
         }
     }
@@ -149,6 +170,7 @@ fn parts(rng: &mut Rng) -> Vec<u8> {
         let body = match kind {
             4 => fields(rng, seats * windows, 4095),
             6 => fields(rng, seats, 50_000),
+            7 => weights(rng),
             _ => fields(rng, 1, seats),
         };
         parts.push((kind, body));
@@ -172,12 +194,36 @@ fn other_length(rng: &mut Rng, length: usize) -> usize {
 
 /// The kinds after kind 3: mostly in order, and at times turned round, twice, unknown or one too many.
 fn optional_kinds(rng: &mut Rng) -> Vec<usize> {
-    let turned = [&[5, 4][..], &[6, 4], &[6, 5], &[4, 6, 5], &[3, 5]];
-    let twice = [&[4, 4][..], &[5, 5], &[6, 6], &[4, 6, 6], &[5, 5, 5]];
-    let unknown = [&[7][..], &[4, 7], &[6, 7], &[4, 5, 7], &[4, 5, 6, 7]];
-    let right = [&[][..], &[4], &[5], &[6], &[4, 5], &[4, 6], &[5, 6], &[4, 5, 6]];
-    let lists = if rng.once_in(9) { [turned, twice, unknown].concat() } else { right.to_vec() };
-    lists[rng.below(lists.len())].to_vec()
+    let turned = [&[5, 4][..], &[6, 4], &[6, 5], &[7, 4], &[7, 6], &[4, 6, 5], &[4, 5, 7, 6], &[3, 5]];
+    let twice = [&[4, 4][..], &[5, 5], &[6, 6], &[7, 7], &[4, 6, 6], &[6, 7, 7], &[5, 5, 5], &[7, 7, 7, 7]];
+    let unknown = [&[8][..], &[4, 8], &[6, 8], &[7, 8], &[4, 5, 8], &[4, 5, 6, 8], &[5, 6, 7, 8], &[4, 5, 6, 7, 8]];
+    if rng.once_in(9) {
+        let lists = [turned, twice, unknown].concat();
+        return lists[rng.below(lists.len())].to_vec();
+    }
+    let there = rng.below(16);
+    (4..8).filter(|kind| there >> (kind - 4) & 1 == 1).collect()
+}
+
+/// Eight weights that rise; in one file of four some do not, or are out of bounds.
+fn weights(rng: &mut Rng) -> Vec<u8> {
+    let mut weights = any_weights(rng, Book::empty(1, 1)).table();
+    if rng.once_in(4) {
+        (0..rng.between(1, 2)).for_each(|_| spoil_weight(rng, &mut weights));
+    }
+    weights.iter().flat_map(|weight| weight.to_le_bytes()).collect()
+}
+
+/// One weight out of bounds or just within, the same as the one before or one less, or any.
+pub fn spoil_weight(rng: &mut Rng, weights: &mut [u16; 8]) {
+    let place = rng.below(8);
+    let before = weights[place.saturating_sub(1)];
+    weights[place] = match rng.below(4) {
+        0 => [0, 1, 1000, 1001, 65535][rng.below(5)],
+        1 => before,
+        2 => before.saturating_sub(1),
+        _ => rng.below(1002) as u16,
+    };
 }
 
 /// That many fields from 1 to `most`, one in some hundred just beyond.
@@ -212,7 +258,7 @@ fn noise(rng: &mut Rng) -> Vec<u8> {
     };
     let mut file: Vec<u8> = (0..length).map(|_| rng.below(256) as u8).collect();
     if length >= 2 && !rng.once_in(8) {
-        file[..2].copy_from_slice(&[rng.between(3, 6) as u8, 0]);
+        file[..2].copy_from_slice(&[rng.between(3, 7) as u8, 0]);
     }
     file
 }

@@ -15,8 +15,10 @@ pub fn draw(rng: &mut Rng) -> raw::Book {
     raw_book.has_sheet = [0, 1, 1, 2, u32::MAX][rng.below(5)];
     raw_book.has_first = [0, 0, 1, 2, u32::MAX][rng.below(5)];
     raw_book.has_balances = [0, 0, 1, 2, u32::MAX][rng.below(5)];
+    raw_book.has_weights = [0, 0, 1, 2, u32::MAX][rng.below(5)];
     let (named, carries) = (raw_book.has_first != 0, raw_book.has_balances != 0);
     raw_book.first = if named { rng.between(1, book.seats) } else { rng.below(65536) } as u16;
+    raw_book.weights = if raw_book.has_weights != 0 { book.table() } else { [0; 8].map(|_| rng.below(65536) as u16) };
     for seat in 0..SEATS {
         let bound = if carries && seat < book.seats { MOST_BALANCE as usize + 1 } else { 65536 };
         raw_book.balances[seat] = rng.below(bound) as u16;
@@ -39,13 +41,14 @@ pub fn draw(rng: &mut Rng) -> raw::Book {
 fn spoil(rng: &mut Rng, book: &mut raw::Book) {
     let number = [0, 33, 25, 65536, usize::MAX, 1 << 63][rng.below(6)];
     let credits = [4096, 4095, 65535][rng.below(3)];
-    match rng.below(7) {
+    match rng.below(8) {
         0 => book.seats = number,
         1 => book.windows = number,
         2 => book.classes[rng.below(SEATS)] = [0, 9, 65535][rng.below(3)],
         3 => book.supplies[rng.below(WINDOWS)] = credits,
         4 => book.first = [0, book.seats as u16 + 1, 257, 65535][rng.below(4)],
         5 => book.balances[rng.below(SEATS)] = [50_001, 50_000, 65535][rng.below(3)],
+        6 => files::spoil_weight(rng, &mut book.weights),
         _ => book.caps[rng.below(SEATS)][rng.below(WINDOWS)] = credits,
     }
 }
@@ -55,7 +58,8 @@ pub fn write(rng: &mut Rng, seen: &mut Seen, book: &raw::Book) -> Result<(), Str
     let raw::Book { seats, windows, classes, supplies, caps, .. } = *book;
     let first = (book.has_first != 0).then_some(book.first);
     let balances = (book.has_balances != 0).then_some(book.balances);
-    let plain_book = Book { seats, windows, classes, supplies, caps, first, balances };
+    let weights = (book.has_weights != 0).then_some(book.weights);
+    let plain_book = Book { seats, windows, classes, supplies, caps, first, balances, weights };
     let sheet = (book.has_sheet != 0).then_some(&book.sheet);
     let need = reference::write(&plain_book, sheet, &mut [0; FILE_LENGTH]).unwrap_or(100);
     let mut buffer = Buffer::of_about(rng, need);

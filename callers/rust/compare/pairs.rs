@@ -1,12 +1,13 @@
 //! Pairs of day files, and the call that chooses between their sheets.
 
-use super::books::{file_of, full_caps, planned, same_totals, spoilt};
+use super::books::{file_of, full_caps, planned, same_totals, spoilt, with_weights};
 use super::calls::same;
 use super::chain::{list, moves, play};
 use super::credits::raw;
 use super::files::{self, NO_CREDITS};
 use super::reference::{
-    self, feasible, Book, PairRefusal, Sheet, MOST_BALANCE, MOST_CREDITS, MOVES_LENGTH, SEATS, WEIGHTS, WINDOWS,
+    self, feasible, Book, PairRefusal, Sheet, MOST_BALANCE, MOST_CREDITS, MOST_WEIGHT, MOVES_LENGTH, SEATS, WEIGHTS,
+    WINDOWS,
 };
 use super::rng::Rng;
 use super::Seen;
@@ -19,8 +20,9 @@ type Day = (Book, Sheet);
 
 /// What may come of a pair: the file of a refusal has its number as place, then come the orders of the lists. The others count pairs again.
 /// Of one book are those with other first seats, those that have nothing else different, and those in which zeros stand against no
-/// balances. Of two books are those that differ in balances alone, and those of them in which one has no balances.
-pub const OUTCOMES: [&str; 11] = [
+/// balances or paper 01's weights against none. Of two books are those that differ in balances alone or in weights alone, those of them in
+/// which one has none, and those in which no weight that differs is of a seat's class.
+pub const OUTCOMES: [&str; 15] = [
     "books differ",
     "first refused",
     "second refused",
@@ -32,19 +34,27 @@ pub const OUTCOMES: [&str; 11] = [
     "zeros against no balances",
     "only balances differ",
     "other balances against none",
+    "01's weights against none",
+    "only weights differ",
+    "other weights against none",
+    "only unused weights differ",
 ];
 const OTHER_FIRST: usize = 6;
 const ONLY_FIRST: usize = 7;
 const ZEROS_OR_NONE: usize = 8;
 const OTHER_BALANCES: usize = 9;
 const BALANCES_OR_NONE: usize = 10;
+const BUILT_IN_OR_NONE: usize = 11;
+const OTHER_WEIGHTS: usize = 12;
+const WEIGHTS_OR_NONE: usize = 13;
+const UNUSED_WEIGHTS: usize = 14;
 
 pub fn draw(rng: &mut Rng) -> Pair {
     if rng.once_in(12) {
         let file = files::draw(rng);
         return [file.clone(), file];
     }
-    let mut days = match rng.below(17) {
+    let mut days = match rng.below(18) {
         0 => cut_in_two_ways(rng),
         1 | 2 => like_seats(rng),
         3 | 4 => levels_dealt(rng),
@@ -52,7 +62,7 @@ pub fn draw(rng: &mut Rng) -> Pair {
             let day = any_day(rng);
             [day.clone(), day]
         }
-        6..=8 => {
+        6..=9 => {
             let day = any_day(rng);
             [day.clone(), other_book(rng, day)]
         }
@@ -63,12 +73,12 @@ pub fn draw(rng: &mut Rng) -> Pair {
             [(book.clone(), sheet), (book, other.unwrap_or(sheet))]
         }
     };
-    // Other first seats make no other book, nor do zeros.
+    // Other first seats make no other book, nor do zeros or paper 01's weights.
     if rng.once_in(2) {
         days = days.map(|(book, sheet)| (files::any_first(rng, book), sheet));
     }
     if rng.once_in(2) {
-        days = days.map(|(book, sheet)| (zeros_or_none(rng, book), sheet));
+        days = days.map(|(book, sheet)| (same_meaning(rng, book), sheet));
     }
     if rng.once_in(2) {
         days.swap(0, 1);
@@ -78,11 +88,12 @@ pub fn draw(rng: &mut Rng) -> Pair {
     days.map(|(book, sheet)| handed_in(rng, one_in, &book, &sheet))
 }
 
-/// The same book with zeros or without them, if it has no other balances.
-fn zeros_or_none(rng: &mut Rng, book: Book) -> Book {
+/// The same book with zeros or without them, if it has no other balances; and with paper 01's weights or without, if it has no others.
+fn same_meaning(rng: &mut Rng, book: Book) -> Book {
     let zeros = [0; SEATS];
     let balances = if book.carried() == zeros { rng.once_in(2).then_some(zeros) } else { book.balances };
-    Book { balances, ..book }
+    let weights = if book.table() == WEIGHTS { rng.once_in(2).then_some(WEIGHTS) } else { book.weights };
+    Book { balances, weights, ..book }
 }
 
 /// The day's file; at times without its sheet, with other cells, damaged, or any file at all.
@@ -160,15 +171,19 @@ fn like_seats(rng: &mut Rng) -> [Day; 2] {
 }
 
 /// The same whole levels dealt out to other seats, whose totals differ where their weights do; at times a credit is missing, and at times
-/// a part of what a seat has in both sheets is its balance.
+/// a part of what a seat has in both sheets is its balance. Own weights are so low that one window can hold three credits of each.
 fn levels_dealt(rng: &mut Rng) -> [Day; 2] {
     let (seats, windows) = files::size(rng);
     let mut book = full_caps(rng, seats, windows);
     book.supplies[..windows].fill(MOST_CREDITS);
+    if rng.once_in(2) {
+        let most = MOST_CREDITS as usize / (3 * seats);
+        book = with_weights(rng, book, 1, most.min(MOST_WEIGHT as usize));
+    }
     let mut levels: Vec<u16> = (0..seats).map(|_| rng.below(4) as u16).collect();
     let dealt = [0; 2].map(|_| {
         levels.rotate_left(rng.below(seats));
-        let height = |seat: usize| levels[seat] * WEIGHTS[book.classes[seat] as usize - 1];
+        let height = |seat: usize| levels[seat] * book.weight(seat);
         (0..seats).map(height).collect::<Vec<_>>()
     });
     if rng.once_in(2) {
@@ -187,11 +202,12 @@ fn levels_dealt(rng: &mut Rng) -> [Day; 2] {
     })
 }
 
-/// Another book with the same sheet, as far as there is room for it: another number, no balances, a seat or a window more; or any day.
+/// Another book with the same sheet, as far as there is room for it: another number, no balances, no or other weights, a seat or a window
+/// more; or any day.
 fn other_book(rng: &mut Rng, (mut book, sheet): Day) -> Day {
     let (seat, window) = (rng.below(book.seats), rng.below(book.windows));
     let class = book.classes[seat] as usize;
-    match rng.below(8) {
+    match rng.below(11) {
         0 => book.classes[seat] = ((class + rng.below(7)) % 8 + 1) as u16,
         1 => book.supplies[window] = next_to(rng, book.supplies[window], MOST_CREDITS),
         2 => book.caps[seat][window] = next_to(rng, book.caps[seat][window], MOST_CREDITS),
@@ -205,9 +221,25 @@ fn other_book(rng: &mut Rng, (mut book, sheet): Day) -> Day {
             book.seats += 1;
         }
         6 if book.windows < WINDOWS => book.windows += 1,
+        7 => book.weights = None,
+        8 => book = files::any_weights(rng, book),
+        9 => book.weights = Some(next_table(rng, book.table())),
         _ => return any_day(rng),
     }
     (book, sheet)
+}
+
+/// The same weights but for one, of any class, which is one more or one less.
+fn next_table(rng: &mut Rng, weights: [u16; 8]) -> [u16; 8] {
+    let rises = |weights: &[u16; 8]| weights.windows(2).all(|pair| pair[0] < pair[1]);
+    let step = |(class, step): (usize, i16)| {
+        let mut other = weights;
+        other[class] = weights[class].wrapping_add_signed(step);
+        other
+    };
+    let steps = (0..8).flat_map(|class| [(class, -1), (class, 1)]).map(step);
+    let tables: Vec<_> = steps.filter(|other| rises(other) && other[0] >= 1 && other[7] <= MOST_WEIGHT).collect();
+    tables[rng.below(tables.len())]
 }
 
 /// One more, or at times one less, with which the sheet may not be lawful.
@@ -256,28 +288,44 @@ pub fn better(seen: &mut Seen, pair: &Pair) -> Result<(), String> {
     check_optional(seen, pair, &library)
 }
 
-/// Files of one book are not turned away for the first seats that they name, nor for zeros in one of them; but for other balances they are.
+/// Files of one book are not turned away for the first seats that they name, nor for zeros or paper 01's weights in one of them; but for
+/// other balances and other weights they are.
 fn check_optional(seen: &mut Seen, pair: &Pair, library: &raw::BetterResult) -> Result<(), String> {
     let [Ok((book, sheet)), Ok((other_book, other))] = [0, 1].map(|place| reference::read(&pair[place])) else {
         return Ok(());
     };
-    let without = |book: &Book| Book { first: None, balances: None, ..book.clone() };
+    let without = |book: &Book| Book { first: None, balances: None, weights: None, ..book.clone() };
     if without(&book) != without(&other_book) {
         return Ok(());
     }
-    let one_has_none = book.balances.is_some() != other_book.balances.is_some();
-    if book.carried() != other_book.carried() {
-        seen.pairs[OTHER_BALANCES] += (library.refusal == 17) as usize;
-        seen.pairs[BALANCES_OR_NONE] += (library.refusal == 17 && one_has_none) as usize;
-        return same("better, with other balances: a choice", library.refusal == 0, false);
+    if book.carried() != other_book.carried() || book.table() != other_book.table() {
+        if library.refusal == 17 {
+            count_two_books(seen, &book, &other_book);
+        }
+        return same("better, with other balances or weights: a choice", library.refusal == 0, false);
     }
     if library.refusal == 0 {
         let other_first = book.first != other_book.first;
         seen.pairs[OTHER_FIRST] += other_first as usize;
-        seen.pairs[ONLY_FIRST] += (other_first && !one_has_none && sheet == other) as usize;
-        seen.pairs[ZEROS_OR_NONE] += one_has_none as usize;
+        let only_first = other_first && (book.balances, book.weights) == (other_book.balances, other_book.weights);
+        seen.pairs[ONLY_FIRST] += (only_first && sheet == other) as usize;
+        seen.pairs[ZEROS_OR_NONE] += (book.balances != other_book.balances) as usize;
+        seen.pairs[BUILT_IN_OR_NONE] += (book.weights != other_book.weights) as usize;
     }
     same("better, with one book: refused by 17", library.refusal == 17, false)
+}
+
+/// Counts two books that differ in nothing but balances or weights; where they differ in both, nothing.
+fn count_two_books(seen: &mut Seen, book: &Book, other: &Book) {
+    if book.table() == other.table() {
+        seen.pairs[OTHER_BALANCES] += 1;
+        seen.pairs[BALANCES_OR_NONE] += (book.balances.is_some() != other.balances.is_some()) as usize;
+    } else if book.carried() == other.carried() {
+        let same_weights = (0..book.seats).all(|seat| book.weight(seat) == other.weight(seat));
+        seen.pairs[OTHER_WEIGHTS] += 1;
+        seen.pairs[WEIGHTS_OR_NONE] += (book.weights.is_some() != other.weights.is_some()) as usize;
+        seen.pairs[UNUSED_WEIGHTS] += same_weights as usize;
+    }
 }
 
 /// The body has the cells of that file's sheet, and the order of the lists gives that file. Gives the order's place.
