@@ -1,6 +1,8 @@
 // Files that are damaged, or made up of any small bodies.
 ghost use Prim.Native.Nat.{_≤_, _<_};
+use crate::SMALL_ROOM;
 use crate::below;
+use crate::draw_weights;
 use crate::offset;
 use crate::put_small;
 use crate::small::draw_cells;
@@ -60,21 +62,21 @@ fn put_entry(file: &mut [u8], at: usize, kind: u8, start: u8, size: u8)
     set(file, at + 4, size);
 }
 
-// The kind of an entry: after kind 3 any of 4 to 7, so that some do not rise and some are unknown.
+// The kind of an entry: after kind 3 any of 4 to 8, so that some do not rise and some are unknown.
 fn draw_kind(state: &mut u32, e: u8) -> u8
-    requires { ⌜ e < 6 ⌝ }
+    requires { ⌜ e < 7 ⌝ }
 {
     if e < 3 {
         e + 1
     } else {
-        4 + below(state, 4) as u8
+        4 + below(state, 5) as u8
     }
 }
 
 // Contents whose starts are right, with bodies of any length below 6; the offset where the last body ends.
 fn draw_contents(state: &mut u32, file: &mut [u8], entries: u8) -> u8
-    requires { ⌜ entries ≤ 6 ⌝ }
-    ensures { λ r. ⌜ r ≤ 68 ⌝ }
+    requires { ⌜ entries ≤ 7 ⌝ }
+    ensures { λ r. ⌜ r ≤ 79 ⌝ }
 {
     set(file, 0, entries);
     let mut end = 2 + 6 * entries;
@@ -96,7 +98,7 @@ fn draw_bodies(state: &mut u32, file: &mut [u8], from: usize, to: usize) {
 
 // A file made up of contents and any small bodies.
 fn draw_made(state: &mut u32, file: &mut [u8]) -> usize {
-    let entries = 3 + below(state, 4) as u8;
+    let entries = 3 + below(state, 5) as u8;
     let end = draw_contents(state, file, entries) as usize;
     draw_bodies(state, file, 2 + 6 * entries as usize, end);
     end
@@ -113,31 +115,55 @@ fn change(state: &mut u32, file: &mut [u8], from: usize, length: usize, n: u32)
 }
 
 fn longer(length: usize) -> usize {
-    if length < 120 { length + 1 } else { length }
+    if length < SMALL_ROOM {
+        length + 1
+    } else {
+        length
+    }
 }
 
-// The last body gets any length below 10, and the file ends where it does: else line 6 would hide what its length means. The contents end
+// The last body gets any length below 20, and the file ends where it does: else line 6 would hide what its length means. The contents end
 // with that length, two bytes of which the high one is 0.
 fn resize(state: &mut u32, file: &mut [u8], length: usize) -> usize {
     let at = 6 * byte(file, 0) as usize;
-    let size = offset(state, 10);
+    let size = offset(state, 20);
     let ahead = std::num::wrapping_sub_usize(length, byte(file, at) as usize);
     set(file, at, size as u8);
     std::num::wrapping_add_usize(ahead, size)
 }
 
+// The two bytes of a field.
+fn set_field(file: &mut [u8], at: usize, x: u16) {
+    set(file, at, (x % 256) as u8);
+    set(file, std::num::wrapping_add_usize(at, 1), (x / 256) as u8);
+}
+
 // The last field gets a number about that of the largest balance.
 fn enlarge(state: &mut u32, file: &mut [u8], length: usize) {
     let x = 49998 + up_to(state, 4);
-    let last = std::num::wrapping_sub_usize(length, 2);
-    set(file, last, (x % 256) as u8);
-    set(file, std::num::wrapping_add_usize(last, 1), (x / 256) as u8);
+    set_field(file, std::num::wrapping_sub_usize(length, 2), x);
+}
+
+// A weight that is mostly wrong in its place of a table: one of the lowest, 0 too, or about the highest.
+fn draw_odd_weight(state: &mut u32) -> u16 {
+    let x = up_to(state, 3);
+    if below(state, 2) == 0 {
+        return x;
+    }
+    998 + x
+}
+
+// One of the last eight fields, the weights where a file has its own, gets another number.
+fn misweigh(state: &mut u32, file: &mut [u8], length: usize) {
+    let back = 2 + 2 * offset(state, 8);
+    let x = draw_odd_weight(state);
+    set_field(file, std::num::wrapping_sub_usize(length, back), x);
 }
 
 // A file that is left as it is, cut, longer by a byte, or has a byte changed: anywhere, in the contents, in the bodies, or in the last
-// field; or its last field is large, or its last body has another length. Its length.
+// field; or its last field is large, or one of the last eight is another number, or its last body has another length. Its length.
 fn damage(state: &mut u32, file: &mut [u8], length: usize) -> usize {
-    let way = below(state, 9);
+    let way = below(state, 10);
     match way {
         0 => length,
         1 => offset(state, length),
@@ -147,7 +173,7 @@ fn damage(state: &mut u32, file: &mut [u8], length: usize) -> usize {
             length
         }
         4 => {
-            change(state, file, 0, 38, 8);
+            change(state, file, 0, 44, 9);
             length
         }
         5 => {
@@ -166,6 +192,10 @@ fn damage(state: &mut u32, file: &mut [u8], length: usize) -> usize {
         }
         7 => {
             enlarge(state, file, length);
+            length
+        }
+        8 => {
+            misweigh(state, file, length);
             length
         }
         _ => resize(state, file, length),
@@ -199,7 +229,7 @@ pub fn draw_hand_in(state: &mut u32, file: &mut [u8], s: Small) -> usize {
 // A book of a small one's numbers, in which one of them may be out of its range.
 fn damage_book(state: &mut u32, s: Small) -> Book {
     let mut book = book_of(s);
-    let way = below(state, 7);
+    let way = below(state, 8);
     match way {
         0 => {
             book.seats = offset(state, 40);
@@ -223,6 +253,12 @@ fn damage_book(state: &mut u32, s: Small) -> Book {
             let i = below(state, 4) as usize;
             book.has_balances = below(state, 4) != 0;
             book.balances[i] = 49999 + up_to(state, 3);
+        }
+        6 => {
+            let k = below(state, 8) as usize;
+            book.has_weights = below(state, 4) != 0;
+            book.weights = draw_weights(state, true);
+            book.weights[k] = draw_odd_weight(state);
         }
         _ => {}
     }

@@ -3,6 +3,7 @@ use crate::below;
 use crate::draw_cap;
 use crate::draw_row;
 use crate::draw_seats;
+use crate::draw_weights;
 use dayfile::Book;
 use dayfile::Day;
 use sheet::Caps;
@@ -42,7 +43,7 @@ fn draw_balances(state: &mut u32, supply: u16, there: bool) -> [u16; 32] {
 }
 
 // The book, but for its caps, with supplies that are about what such caps ask for, or less. In a third of the books no first seat is named,
-// and a third has no balances.
+// a third has no balances, and a third has weights of its own.
 fn draw_book(state: &mut u32, most: u16) -> Book {
     let classes = draw_seats(state, 32, 1, 7);
     let supply = if most < 256 { 16 * most } else { 4095 };
@@ -50,6 +51,8 @@ fn draw_book(state: &mut u32, most: u16) -> Book {
     let first = draw_cap(state, 32, true);
     let has_balances = below(state, 3) != 0;
     let balances = draw_balances(state, supply, has_balances);
+    let has_weights = below(state, 3) == 0;
+    let weights = draw_weights(state, has_weights);
     Book {
         seats: 32,
         windows: 24,
@@ -59,6 +62,8 @@ fn draw_book(state: &mut u32, most: u16) -> Book {
         first,
         has_balances,
         balances,
+        has_weights,
+        weights,
     }
 }
 

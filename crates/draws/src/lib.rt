@@ -2,6 +2,7 @@
 ghost use Prim.Native.Nat.{_+_, _≤_, _<_};
 use dayfile::Day;
 use dayfile::Written;
+use oracle::BUILT_IN;
 use oracle::Small;
 use oracle::memory::book_of;
 use oracle::memory::grid_of;
@@ -10,6 +11,9 @@ use oracle::numbers::times;
 pub mod damage;
 pub mod full;
 pub mod small;
+
+// More bytes than any file of a small book has, damaged or not.
+pub const SMALL_ROOM: usize = 160;
 
 // The product's remainder on 2^32.
 fn multiply(a: u32, b: u32) -> u32 {
@@ -52,6 +56,35 @@ fn draw_seats(state: &mut u32, n: usize, low: u16, more: u16) -> [u16; 32]
         numbers[i] = low + up_to(state, more);
     }
     numbers
+}
+
+// Weights that rise: the first is above `low`, each other one above the one before, by 1 and at most so many more.
+fn draw_table(state: &mut u32, low: u16, more: u16) -> [u16; 8]
+    requires { ⌜ (low ≤ 992) × (more ≤ 124) ⌝ }
+{
+    let mut weights = [0u16; 8];
+    let mut last = low;
+    for k in 0..8usize {
+        last += 1 + up_to(state, more);
+        weights[k] = last;
+    }
+    weights
+}
+
+// A book's own weights: the lowest and the highest that there can be, paper 01's, any, or any that rise by little, so that they and the
+// credits of a sheet decide together. Where there are none, the numbers are 0.
+fn draw_weights(state: &mut u32, there: bool) -> [u16; 8] {
+    if !there {
+        return [0u16; 8];
+    }
+    let way = below(state, 8);
+    match way {
+        0 => draw_table(state, 0, 0),
+        1 => draw_table(state, 992, 0),
+        2 => BUILT_IN,
+        3 => draw_table(state, 0, 124),
+        _ => draw_table(state, 0, 4),
+    }
 }
 
 // A number that is at most `most`, or 0 with no draw.

@@ -4,7 +4,9 @@ use crate::below;
 use crate::draw_if;
 use crate::draw_row;
 use crate::draw_seats;
+use crate::draw_weights;
 use crate::up_to;
+use oracle::BUILT_IN;
 use oracle::Small;
 
 pub fn draw_cells(state: &mut u32, seats: usize, windows: usize, most: u16) -> [u16; 12] {
@@ -38,7 +40,8 @@ fn draw_balances(state: &mut u32, seats: usize, there: bool) -> [u16; 32]
     }
 }
 
-// Often of a few classes only, so that there are ties. Any seat is the first, seat 1 too, or none is named. A third has no balances.
+// Often of a few classes only, so that there are ties. Any seat is the first, seat 1 too, or none is named. A third has no balances, and a
+// third has weights of its own.
 pub fn draw_small(state: &mut u32) -> Small {
     let seats = 1 + below(state, 4) as usize;
     let windows = 1 + below(state, 3) as usize;
@@ -50,6 +53,8 @@ pub fn draw_small(state: &mut u32) -> Small {
     let first = up_to(state, seats as u16);
     let has_balances = below(state, 3) != 0;
     let balances = draw_balances(state, seats, has_balances);
+    let has_weights = below(state, 3) == 0;
+    let weights = draw_weights(state, has_weights);
     Small {
         seats,
         windows,
@@ -59,6 +64,8 @@ pub fn draw_small(state: &mut u32) -> Small {
         first,
         has_balances,
         balances,
+        has_weights,
+        weights,
     }
 }
 
@@ -69,14 +76,35 @@ pub fn without_balances(mut s: Small) -> Small {
     s
 }
 
+// The same book without weights of its own.
+pub fn without_weights(mut s: Small) -> Small {
+    s.has_weights = false;
+    s.weights = [0u16; 8];
+    s
+}
+
+// The same book, where paper 01's weights are its own.
+fn with_built_in(mut s: Small) -> Small {
+    s.has_weights = true;
+    s.weights = BUILT_IN;
+    s
+}
+
+// The same book, but for class 8, which has the highest weight that there can be.
+fn with_highest(s: Small) -> Small {
+    let mut other = if s.has_weights { s } else { with_built_in(s) };
+    other.weights[7] = 1000;
+    other
+}
+
 // Mostly the same book again, on a day when seat 1 is named as the first, or none is. In some of these it has no balances, or one of them
-// is 0 or 1.
+// is 0 or 1; or it has no weights of its own, or paper 01's, or another one for class 8.
 pub fn draw_other(state: &mut u32, mut s: Small) -> Small {
     if below(state, 8) == 0 {
         return draw_small(state);
     }
     s.first = up_to(state, 1);
-    let way = below(state, 4);
+    let way = below(state, 8);
     match way {
         0 => without_balances(s),
         1 => {
@@ -85,6 +113,9 @@ pub fn draw_other(state: &mut u32, mut s: Small) -> Small {
             s.balances[i] = up_to(state, 1);
             s
         }
+        2 => without_weights(s),
+        3 => with_built_in(s),
+        4 => with_highest(s),
         _ => s,
     }
 }

@@ -2,7 +2,7 @@
 //
 // A book has up to 4 seats and 3 windows, a sheet 12 cells, 3 for each seat. Outside the book cells, caps and supplies are 0. Where no seat
 // is named as the first, `first` is 0: no file that is taken holds a seat 0. Balances that are all 0 can stand in a file or be missing, so
-// `has_balances` says which; where they are missing, the numbers are 0.
+// `has_balances` says which; where they are missing, the numbers are 0. So are own weights, and paper 01's are in force.
 pub mod marks;
 pub mod memory;
 pub mod numbers;
@@ -19,7 +19,12 @@ pub struct Small {
     pub first: u16,
     pub has_balances: bool,
     pub balances: [u16; 32],
+    pub has_weights: bool,
+    pub weights: [u16; 8],
 }
+
+// Paper 01's weights, of classes 1 to 8.
+pub const BUILT_IN: [u16; 8] = [1, 2, 3, 5, 8, 12, 20, 40];
 
 // One more, or 0 again above the cap.
 fn next_cell(x: u16, cap: u16) -> u16 {

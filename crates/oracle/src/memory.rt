@@ -9,6 +9,7 @@ pub fn book_of(s: Small) -> Book {
     let classes = s.classes;
     let supplies = s.supplies;
     let balances = s.balances;
+    let weights = s.weights;
     Book {
         seats: s.seats,
         windows: s.windows,
@@ -18,6 +19,8 @@ pub fn book_of(s: Small) -> Book {
         first: s.first,
         has_balances: s.has_balances,
         balances,
+        has_weights: s.has_weights,
+        weights,
     }
 }
 
@@ -49,6 +52,7 @@ pub fn small_of(day: Day) -> Small {
     let classes = book.classes;
     let supplies = book.supplies;
     let balances = book.balances;
+    let weights = book.weights;
     Small {
         seats: book.seats,
         windows: book.windows,
@@ -58,5 +62,7 @@ pub fn small_of(day: Day) -> Small {
         first: book.first,
         has_balances: book.has_balances,
         balances,
+        has_weights: book.has_weights,
+        weights,
     }
 }

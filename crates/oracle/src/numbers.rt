@@ -1,10 +1,18 @@
 // Numbers of twice the width, which sums and products cannot overflow.
-ghost use Prim.Native.Nat.{_≤_};
+ghost use Prim.Native.Nat.{_*_, _≤_};
 
 pub fn wide(x: u16) -> u32
     ensures { λ r. ⌜ r ≤ 65535 ⌝ }
 {
     x as u32
+}
+
+// The product of a weight, or of two weights, with one more.
+pub fn multiply(a: u32, weight: u32) -> u32
+    requires { ⌜ (a ≤ 1000000) × (weight ≤ 1000) ⌝ }
+    ensures { λ r. ⌜ r ≤ 1000 * a ⌝ }
+{
+    a * weight
 }
 
 // The whole product.
