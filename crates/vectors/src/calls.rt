@@ -28,7 +28,7 @@ pub fn second_in(numbers: &[u8]) -> &[u8] {
 }
 
 // A book in memory: whether it has a sheet, seats, windows, classes, supplies, caps, sheet, whether a first seat is named, that seat,
-// whether there are balances, and these.
+// whether there are balances, and these, whether there are own weights, and these.
 pub fn day_in(numbers: &[u8]) -> Day {
     let seats = numbers::wide(numbers, 2);
     let windows = numbers::wide(numbers, 3);
@@ -42,6 +42,8 @@ pub fn day_in(numbers: &[u8]) -> Day {
     let after = 4 + seats + windows + 2 * cells;
     let mut balances = [0u16; 32];
     numbers::fill(numbers, after + 3, &mut balances);
+    let mut weights = [0u16; 8];
+    numbers::fill(numbers, after + 4 + seats, &mut weights);
     let book = Book {
         seats,
         windows,
@@ -51,6 +53,8 @@ pub fn day_in(numbers: &[u8]) -> Day {
         first: numbers::at(numbers, after + 1),
         has_balances: numbers::at(numbers, after + 2) == 1,
         balances,
+        has_weights: numbers::at(numbers, after + 3 + seats) == 1,
+        weights,
     };
     Day::new(book, caps, numbers::at(numbers, 1) == 1, sheet)
 }
