@@ -38,10 +38,12 @@ bookFrom d =
       first = d .book .first;
       «has_balances» = flag (d .book .«has_balances»);
       balances = d .book .balances;
+      «has_weights» = flag (d .book .«has_weights»);
+      weights = d .book .weights;
     }
 
--- a book that was handed in; its sheet counts unless has_sheet is 0, its first seat unless has_first is 0, and its balances unless
--- has_balances is 0
+-- a book that was handed in; its sheet counts unless has_sheet is 0, its first seat unless has_first is 0, its balances unless has_balances
+-- is 0, and its weights unless has_weights is 0
 abbrev pub dayFrom : CreditsBook → Day
 dayFrom c =
     record {
@@ -54,6 +56,8 @@ dayFrom c =
         first = c .first;
         «has_balances» = not (eqb (c .«has_balances») 0);
         balances = c .balances;
+        «has_weights» = not (eqb (c .«has_weights») 0);
+        weights = c .weights;
       };
       caps = c .caps;
       «has_sheet» = not (eqb (c .«has_sheet») 0);

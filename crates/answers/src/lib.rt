@@ -30,8 +30,8 @@ pub struct Numbers {
     pub moves: usize,
 }
 
-// A book with its caps, a sheet unless has_sheet is 0, a first seat unless has_first is 0, and balances unless has_balances is 0. Later
-// fields go to its end, so that offsets stay.
+// A book with its caps, a sheet unless has_sheet is 0, a first seat unless has_first is 0, balances unless has_balances is 0, and weights
+// of its own unless has_weights is 0. Later fields go to its end, so that offsets stay.
 #[repr(C)]
 pub struct CreditsBook {
     pub seats: usize,
@@ -45,6 +45,8 @@ pub struct CreditsBook {
     pub first: u16,
     pub has_balances: u32,
     pub balances: [u16; 32],
+    pub has_weights: u32,
+    pub weights: [u16; 8],
 }
 
 // A refusal, or a book.
@@ -193,6 +195,8 @@ impl CreditsBook {
         let has_first = flag(book.has_first);
         let has_balances = flag(book.has_balances);
         let balances = book.balances;
+        let has_weights = flag(book.has_weights);
+        let weights = book.weights;
         CreditsBook {
             seats: book.seats,
             windows: book.windows,
@@ -205,6 +209,8 @@ impl CreditsBook {
             first: book.first,
             has_balances,
             balances,
+            has_weights,
+            weights,
         }
     }
 
@@ -215,6 +221,7 @@ impl CreditsBook {
         let classes = self.classes;
         let supplies = self.supplies;
         let balances = self.balances;
+        let weights = self.weights;
         let caps = self.caps;
         let sheet = self.sheet;
         let book = Book {
@@ -226,6 +233,8 @@ impl CreditsBook {
             first: self.first,
             has_balances: self.has_balances != 0,
             balances,
+            has_weights: self.has_weights != 0,
+            weights,
         };
         Day {
             book,

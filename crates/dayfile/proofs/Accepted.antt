@@ -1,6 +1,6 @@
 -- The book and the sheet of a file that no line turns away are within paper 01's bounds; so is a book that the writer's lines take.
 -- Assumes nothing.
-use mathlib.Core.Bool.{false}
+use mathlib.Core.Bool.{true, false}
 use mathlib.Core.List.{List, _∷_}
 use mathlib.Core.Option.{Option, none, some}
 use mathlib.Core.Path.{_≡_, refl, sym, _∙_, ap, ap₂}
@@ -10,19 +10,20 @@ use native.Mathlib.Omega.{arith}
 use lib.ListN.{length, getD}
 use Rattle.model.specs.Lowest.{andThen}
 use Rattle.model.specs.Book.{Book, Grid, Shaped, cell, seats, windows}
-use Rattle.dayfile.specs.Bounds.{Fit, FirstFit, BalancesFit, SheetFit, TwoByte}
+use Rattle.dayfile.specs.Bounds.{Fit, FirstFit, BalancesFit, WeightsFit, SheetFit, TwoByte}
 use Rattle.dayfile.specs.Layout.{Bytes, field, start, size, seatsIn, windowsIn, sizeAt, entryOf, fieldsAt, gridIn}
-use Rattle.dayfile.specs.Layout.{firstIn, balancesIn, bookOf, sheetOf}
+use Rattle.dayfile.specs.Layout.{firstIn, balancesIn, weightsIn, bookOf, sheetOf}
 use Rattle.dayfile.specs.File.{Part, part, oneIf, flat, optParts, partsOf, assemble, fileOf}
-use Rattle.dayfile.specs.Table.{within, firstOf, wrongFields, line7, line8, line10, line11, line12, line18, line19}
+use Rattle.dayfile.specs.Table.{within, firstOf, wrongFields, line7, line8, line10, line11, line12, line18, line19, line20}
 use Rattle.dayfile.specs.Table.{valueLines, optionLines, writeLines}
 use Rattle.dayfile.proofs.Tests.{low-as, high-as, within-low, within-high}
 use Rattle.dayfile.proofs.Lines.{none-holds}
 use Rattle.dayfile.proofs.Fields.{field-small, fields-length, fields-at, grid-shaped, grid-cell}
 use Rattle.dayfile.proofs.Grids.{flat-length, flat-at}
 use Rattle.dayfile.proofs.Container.{nth, size-is, body-is}
-use Rattle.dayfile.proofs.Sound.{Sound, FieldsWithin, Even, even-size, none-outside}
-use Rattle.dayfile.proofs.WrittenReads.{none-fits, list-seat, list-balances, written-seats, first-at, balances-at}
+use Rattle.dayfile.proofs.Sound.{Sound, FieldsRight, FieldsWithin, Even, even-size, none-outside}
+use Rattle.dayfile.proofs.WrittenReads.{same-right, none-fits, list-seat, list-balances, list-weights}
+use Rattle.dayfile.proofs.WrittenReads.{written-seats, first-at, balances-at, weights-at}
 
 -- ---- a file that is read
 
@@ -100,6 +101,21 @@ module _ (f : List ℕ) where
   unfolding bookOf balancesIn
   balances-fits s = balances-within (seats (bookOf f)) (seats-are f) (entryOf f 6) (s .balances)
 
+  weights-within : (r : Option ℕ) → ((e : ℕ) → r ≡ some e → FieldsRight f (start f e) 8 1 1000 true)
+      → WeightsFit (andThen r (λ e. some (fieldsAt f (start f e) 8)))
+  weights-within none h = tt
+  weights-within (some e) h =
+      let ws : List ℕ = fieldsAt f (start f e) 8 in
+      let long = fields-length f (start f e) 8 in
+      list-weights (some ws) (
+        long,
+        λ i l. sym (same-right f (start f e) 1 1000 true ws (ap (fieldsAt f (start f e)) long) i l) ∙ h e refl i (omega arith),
+      )
+
+  pub weights-fits : Sound f → WeightsFit (bookOf f .weights)
+  unfolding bookOf weightsIn
+  weights-fits s = weights-within (entryOf f 7) (s .weights)
+
   sheet-small : Bytes f → (r : Option ℕ)
       → TwoByte (bookOf f) (andThen r (λ e. some (gridIn f e)))
   sheet-small by none = tt
@@ -134,6 +150,7 @@ fits f s =
           (s .caps (i * windowsIn f + j) (cell-inside (seatsIn f) (windowsIn f) i j (omega arith) (omega arith)));
       first-seat = first-fits f s;
       balances-fit = balances-fits f s;
+      weights-fit = weights-fits f s;
     }
 
 -- ---- a book that is written
@@ -167,6 +184,7 @@ module _ (b : Book) (o : Option Grid) (shape : Shaped (seats b) (windows b) (b .
     caps : FieldsWithin file (start file 2) (seatsIn file * windowsIn file) 0 4095
     first : line18 file ≡ none
     balances : line19 file ≡ none
+    weights : line20 file ≡ none
 
   passed : (room : ℕ) → firstOf (writeLines file room) ≡ none → Values
   unfolding writeLines valueLines optionLines line7 line8 line10 line11 line12
@@ -180,6 +198,7 @@ module _ (b : Book) (o : Option Grid) (shape : Shaped (seats b) (windows b) (b .
         caps = none-outside file (start file 2) (seatsIn file * windowsIn file) 0 4095 (n .1 .1 .1 .1 .0);
         first = n .1 .1 .1 .1 .1 .0;
         balances = n .1 .1 .1 .1 .1 .1 .0;
+        weights = n .1 .1 .1 .1 .1 .1 .1 .0;
       }
 
   -- a first seat that line 18 lets pass
@@ -197,6 +216,11 @@ module _ (b : Book) (o : Option Grid) (shape : Shaped (seats b) (windows b) (b .
       list-balances (seats b) (b .balances)
       (none-fits ps _ (seats b) 0 50000 false (entryOf file 6) (b .balances) (balances-at b o)
       (ap (λ (n : ℕ). andThen (entryOf file 6) (wrongFields file n 0 50000 false)) (sym (written-seats b o)) ∙ e))
+
+  -- weights that line 20 lets pass
+  own-fit : line20 file ≡ none → WeightsFit (b .weights)
+  unfolding line20 fileOf partsOf
+  own-fit e = list-weights (b .weights) (none-fits ps _ 8 1 1000 true (entryOf file 7) (b .weights) (weights-at b o) e)
 
   file-fits : (room : ℕ) → firstOf (writeLines file room) ≡ none → Fit b
   unfolding fileOf partsOf
@@ -226,6 +250,7 @@ module _ (b : Book) (o : Option Grid) (shape : Shaped (seats b) (windows b) (b .
             (v .caps (i * windows b + j) (omega arith));
         first-seat = seat-fits (v .first);
         balances-fit = carried-fit (v .balances);
+        weights-fit = own-fit (v .weights);
       }
 
   pub taken-fits : (room : ℕ) → firstOf (writeLines (fileOf b o) room) ≡ none → Fit b

@@ -1,4 +1,4 @@
--- K11 of paper 01 to the byte, and with paper 02's kinds 5 and 6, computed from the definitions.
+-- K11 of paper 01 to the byte, and with paper 02's kinds 5, 6 and 7, computed from the definitions.
 -- Assumes nothing.
 use mathlib.Core.List.{List, [], _∷_, _++_}
 use mathlib.Core.Option.{Option, none, some}
@@ -7,17 +7,17 @@ use Prim.Native.Nat.{ℕ}
 use lib.ListN.{take}
 use Rattle.fairness.specs.Leximin.{table}
 use Rattle.model.specs.Lowest.{lowest}
-use Rattle.model.specs.Book.{Book, Grid, withFirst, withBalances}
-use Rattle.dayfile.specs.Layout.{field, entryOf, ends, fieldsAt, gridAt, firstIn, balancesIn, bookOf, sheetOf}
+use Rattle.model.specs.Book.{Book, Grid, withFirst, withBalances, withWeights}
+use Rattle.dayfile.specs.Layout.{field, entryOf, ends, fieldsAt, gridAt, firstIn, balancesIn, weightsIn, bookOf, sheetOf}
 use Rattle.dayfile.specs.File.{bytesOf, contents, bodies, fieldsOf, assemble, flat, optPart, optParts, partsOf, fileOf}
 use Rattle.dayfile.specs.Table.{refuse, kindRight, sizeRight, gridRight, wrongField}
 use Rattle.dayfile.specs.Table.{line1, line2, line3, line4, line5, line6, line7, line8, line9, line10, line11, line12}
-use Rattle.dayfile.specs.Table.{wrongFields, line18, line19, contentsLines, lengthLines, valueLines, optionLines, readLines}
+use Rattle.dayfile.specs.Table.{wrongFields, line18, line19, line20, contentsLines, lengthLines, valueLines, optionLines, readLines}
 use Rattle.dayfile.specs.Outcome.{turnedAway, answer, readFile}
 
 -- the K10 book: supply 3; cap 2
 abbrev book : Book
-book = record { classes = 1 ∷ []; supplies = 3 ∷ []; caps = (2 ∷ []) ∷ []; first = none; balances = none }
+book = record { classes = 1 ∷ []; supplies = 3 ∷ []; caps = (2 ∷ []) ∷ []; first = none; balances = none; weights = none }
 
 -- its planned sheet
 abbrev sheet : Option Grid
@@ -84,8 +84,8 @@ pub k11-read :
     × (readFile (k11 ++ (0x00 ∷ [])) ≡ turnedAway (refuse 6 27))
 unfolding readFile readLines contentsLines lengthLines valueLines optionLines
     line1 line2 line3 line4 line5 line6 line7 line8 line9 line10 line11 line12
-    line18 line19 wrongFields lowest kindRight sizeRight gridRight wrongField field ends entryOf firstIn balancesIn bookOf sheetOf
-    fieldsAt gridAt table
+    line18 line19 line20 wrongFields lowest kindRight sizeRight gridRight wrongField field ends entryOf
+    firstIn balancesIn weightsIn bookOf sheetOf fieldsAt gridAt table
 k11-read = (refl, refl, refl, refl)
 
 pub named-written : (fileOf (firstIs 1) none ≡ named 1) × (fileOf (firstIs 1) sheet ≡ named-planned)
@@ -100,8 +100,8 @@ pub named-read :
     × (readFile (named 2) ≡ turnedAway (refuse 18 32))
 unfolding readFile readLines contentsLines lengthLines valueLines optionLines
     line1 line2 line3 line4 line5 line6 line7 line8 line9 line10 line11 line12
-    line18 line19 wrongFields lowest kindRight sizeRight gridRight wrongField field ends entryOf firstIn balancesIn bookOf sheetOf
-    fieldsAt gridAt table
+    line18 line19 line20 wrongFields lowest kindRight sizeRight gridRight wrongField field ends entryOf
+    firstIn balancesIn weightsIn bookOf sheetOf fieldsAt gridAt table
 named-read = (refl, refl, refl, refl)
 
 -- the book with a balance of 50,000, and with a first seat or none
@@ -124,14 +124,47 @@ pub carried-written : (fileOf (carried none) none ≡ further 6 0x50 0xC3) × (f
 unfolding fileOf partsOf optParts optPart flat assemble fieldsOf contents bodies bytesOf
 carried-written = (refl, refl)
 
--- a balance of 50,001 is refusal 19 at the value; kind 7 is unknown
+-- a balance of 50,001 is refusal 19 at the value; kind 8 is unknown
 pub carried-read :
     (readFile (further 6 0x50 0xC3) ≡ answer (carried none, none))
     × (readFile carried-planned ≡ answer (carried (some 1), sheet))
     × (readFile (further 6 0x51 0xC3) ≡ turnedAway (refuse 19 32))
-    × (readFile (further 7 0x50 0xC3) ≡ turnedAway (refuse 4 20))
+    × (readFile (further 8 0x50 0xC3) ≡ turnedAway (refuse 4 20))
 unfolding readFile readLines contentsLines lengthLines valueLines optionLines
     line1 line2 line3 line4 line5 line6 line7 line8 line9 line10 line11 line12
-    line18 line19 wrongFields lowest kindRight sizeRight gridRight wrongField field ends entryOf firstIn balancesIn bookOf sheetOf
-    fieldsAt gridAt table
+    line18 line19 line20 wrongFields lowest kindRight sizeRight gridRight wrongField field ends entryOf
+    firstIn balancesIn weightsIn bookOf sheetOf fieldsAt gridAt table
 carried-read = (refl, refl, refl, refl)
+
+-- the book with weights of its own
+abbrev weighed : List ℕ → Book
+weighed ws = withWeights (some ws) book
+
+-- its file with the low and the high bytes of the first weight, of the second and of the last, between which 4 to 8 stand: 48 bytes
+abbrev own : (first second last high : ℕ) → List ℕ
+own first second last high =
+    0x04 ∷ 0x00
+    ∷ 0x01 ∷ 0x00 ∷ 0x1A ∷ 0x00 ∷ 0x02 ∷ 0x00
+    ∷ 0x02 ∷ 0x00 ∷ 0x1C ∷ 0x00 ∷ 0x02 ∷ 0x00
+    ∷ 0x03 ∷ 0x00 ∷ 0x1E ∷ 0x00 ∷ 0x02 ∷ 0x00
+    ∷ 0x07 ∷ 0x00 ∷ 0x20 ∷ 0x00 ∷ 0x10 ∷ 0x00
+    ∷ 0x01 ∷ 0x00 ∷ 0x03 ∷ 0x00 ∷ 0x02 ∷ 0x00
+    ∷ first ∷ 0x00 ∷ second ∷ 0x00 ∷ 0x04 ∷ 0x00 ∷ 0x05 ∷ 0x00 ∷ 0x06 ∷ 0x00 ∷ 0x07 ∷ 0x00 ∷ 0x08 ∷ 0x00 ∷ last ∷ high ∷ []
+
+pub own-written : fileOf (weighed (2 ∷ 3 ∷ 4 ∷ 5 ∷ 6 ∷ 7 ∷ 8 ∷ 1000 ∷ [])) none ≡ own 2 3 0xE8 0x03
+unfolding fileOf partsOf optParts optPart flat assemble fieldsOf contents bodies bytesOf
+own-written = refl
+
+-- a first weight of 0, a second that is not greater, and 1,001 are refusal 20, each at its value; a body of one field is so at its length
+pub own-read :
+    (readFile (own 2 3 0xE8 0x03) ≡ answer (weighed (2 ∷ 3 ∷ 4 ∷ 5 ∷ 6 ∷ 7 ∷ 8 ∷ 1000 ∷ []), none))
+    × (readFile (own 0 3 0xE8 0x03) ≡ turnedAway (refuse 20 32))
+    × (readFile (own 3 3 0xE8 0x03) ≡ turnedAway (refuse 20 34))
+    × (readFile (own 3 2 0xE9 0x03) ≡ turnedAway (refuse 20 34))
+    × (readFile (own 2 3 0xE9 0x03) ≡ turnedAway (refuse 20 46))
+    × (readFile (further 7 0x02 0x00) ≡ turnedAway (refuse 20 24))
+unfolding readFile readLines contentsLines lengthLines valueLines optionLines
+    line1 line2 line3 line4 line5 line6 line7 line8 line9 line10 line11 line12
+    line18 line19 line20 wrongFields lowest kindRight sizeRight gridRight wrongField field ends entryOf
+    firstIn balancesIn weightsIn bookOf sheetOf fieldsAt gridAt table
+own-read = (refl, refl, refl, refl, refl, refl)

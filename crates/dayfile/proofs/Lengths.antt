@@ -9,7 +9,7 @@ use native.Mathlib.Omega.{arith}
 use lib.ListN.{length, getD, length-append}
 use Rattle.fairness.specs.Leximin.{table}
 use Rattle.model.specs.Book.{Book, Grid, Shaped, SheetOf, cell, seats, windows}
-use Rattle.dayfile.specs.Bounds.{Fit, FirstFit, BalancesFit, SheetFit, TwoByte, longestFile}
+use Rattle.dayfile.specs.Bounds.{Fit, FirstFit, BalancesFit, WeightsFit, SheetFit, TwoByte, longestFile}
 use Rattle.dayfile.specs.Layout.{Bytes, contentsEnd}
 use Rattle.dayfile.specs.File.{Part, part, contents, bodies, fieldsOf, flat, flatIf, optPart, optParts, partsOf, assemble, fileOf}
 use Rattle.dayfile.specs.File.{oneIf}
@@ -36,11 +36,13 @@ bodies-opt k (some xs) qs = length-append xs (bodies qs)
 
 pub file-length : (b : Book) (o : Option Grid)
     → length (fileOf b o)
-    ≡ contentsEnd (3 + entryIf (flatIf o) + entryIf (oneIf (b .first)) + entryIf (b .balances))
-    + 2 * (seats b + windows b + length (flat (b .caps)) + lengthIf (flatIf o) + lengthIf (oneIf (b .first)) + lengthIf (b .balances))
+    ≡ contentsEnd (3 + entryIf (flatIf o) + entryIf (oneIf (b .first)) + entryIf (b .balances) + entryIf (b .weights))
+    + 2 * (seats b + windows b + length (flat (b .caps)) + lengthIf (flatIf o) + lengthIf (oneIf (b .first)) + lengthIf (b .balances)
+    + lengthIf (b .weights))
 unfolding fileOf partsOf optParts bodies
 file-length b o =
-    let last : List Part = optPart 6 (b .balances) ++ [] in
+    let end : List Part = optPart 7 (b .weights) ++ [] in
+    let last : List Part = optPart 6 (b .balances) ++ end in
     let tail : List Part = optPart 5 (oneIf (b .first)) ++ last in
     let ps : List Part = optPart 4 (flatIf o) ++ tail in
     let all : List Part = part 1 (b .classes) ∷ part 2 (b .supplies) ∷ part 3 (flat (b .caps)) ∷ ps in
@@ -48,8 +50,10 @@ file-length b o =
     let s = bodies-opt 4 (flatIf o) tail in
     let i = count-opt 5 (oneIf (b .first)) last in
     let j = bodies-opt 5 (oneIf (b .first)) last in
-    let k = count-opt 6 (b .balances) [] in
-    let l = bodies-opt 6 (b .balances) [] in
+    let k = count-opt 6 (b .balances) end in
+    let l = bodies-opt 6 (b .balances) end in
+    let v = count-opt 7 (b .weights) [] in
+    let w = bodies-opt 7 (b .weights) [] in
     let a = length-append (b .classes) (b .supplies ++ (flat (b .caps) ++ bodies ps)) in
     let c = length-append (b .supplies) (flat (b .caps) ++ bodies ps) in
     let d = length-append (flat (b .caps)) (bodies ps) in
@@ -73,6 +77,11 @@ each-most : (n : ℕ) (o : Option (List ℕ)) → BalancesFit n o → (entryIf o
 each-most n none h = (omega arith, omega arith)
 each-most n (some xs) h = (omega arith, omega (arith, h .0))
 
+-- weights are one entry of eight fields, or none of none
+eight-most : (o : Option (List ℕ)) → WeightsFit o → (entryIf o ≤ 1) × (lengthIf o ≤ 8)
+eight-most none h = (omega arith, omega arith)
+eight-most (some ws) h = (omega arith, omega (arith, h .0))
+
 few-cells : (n m : ℕ) → n ≤ 32 → m ≤ 24 → n * m ≤ 768
 few-cells n m h k = let a = mul-le-mul-left n k in let b = mul-le-mul-right 24 h in omega arith
 
@@ -84,10 +93,11 @@ file-short b o fit sheet =
     let n = few-entries o in
     let k = one-most (b .first) in
     let l = each-most (seats b) (b .balances) (fit .balances-fit) in
+    let w = eight-most (b .weights) (fit .weights-fit) in
     let p = few-cells (seats b) (windows b) (fit .seats-high) (fit .windows-high) in
     let q = mul-le-mul-right (seats b * windows b) n in
     let sh = fit .seats-high in
-    let wh = fit .windows-high in omega (arith, k, l)
+    let wh = fit .windows-high in omega (arith, k, l, w)
 
 -- a sheet of whatever cells makes the file as long
 pub planned-length : (b : Book) (s : Grid) → Shaped (seats b) (windows b) (b .caps) → SheetOf b s
@@ -157,24 +167,36 @@ balances-small n none h = tt
 balances-small n (some xs) h =
     (omega arith, small-under 50000 xs (omega arith) (λ k l. h .1 k (omega (arith, h .0))))
 
+weights-small : (o : Option (List ℕ)) → WeightsFit o → IfThere (λ ws. SmallPart (part 7 ws)) o
+weights-small none h = tt
+weights-small (some ws) h =
+    (omega arith, small-under 1000 ws (omega arith) (λ k l. h .1 k (omega (arith, h .0)) .1))
+
 module _ (b : Book) (o : Option Grid) (fit : Fit b) (sheet : SheetFit b o) (two : TwoByte b o) where
   caps-small : Small (flat (b .caps))
   caps-small =
       small-under 4095 (flat (b .caps)) (omega arith)
       (flat-cell (seats b) (windows b) (b .caps) (fit .cap-shape) (λ x. x ≤ 4095) (fit .cap-high))
 
+  options-small : Each SmallPart (optParts b o)
+  unfolding optParts
+  options-small =
+      let end : List Part = optPart 7 (b .weights) ++ [] in
+      let last : List Part = optPart 6 (b .balances) ++ end in
+      each-opt SmallPart 4 (flatIf o) (optPart 5 (oneIf (b .first)) ++ last) (sheet-small b o sheet two)
+      (each-opt SmallPart 5 (oneIf (b .first)) last (first-small (seats b) (b .first) (fit .seats-high) (fit .first-seat))
+      (each-opt SmallPart 6 (b .balances) end (balances-small (seats b) (b .balances) (fit .balances-fit))
+      (each-opt SmallPart 7 (b .weights) [] (weights-small (b .weights) (fit .weights-fit)) tt)))
+
   parts-small : Each SmallPart (partsOf b o)
-  unfolding partsOf optParts
+  unfolding partsOf
   parts-small = (
     (omega arith, small-under 8 (b .classes) (omega arith) (fit .class-high)),
     (
       (omega arith, small-under 4095 (b .supplies) (omega arith) (fit .supply-high)),
       (
         (omega arith, caps-small),
-        each-opt SmallPart 4 (flatIf o) (optPart 5 (oneIf (b .first)) ++ (optPart 6 (b .balances) ++ [])) (sheet-small b o sheet two)
-            (each-opt SmallPart 5 (oneIf (b .first)) (optPart 6 (b .balances) ++ [])
-            (first-small (seats b) (b .first) (fit .seats-high) (fit .first-seat))
-            (each-opt SmallPart 6 (b .balances) [] (balances-small (seats b) (b .balances) (fit .balances-fit)) tt)),
+        options-small,
       ),
     ),
   )
@@ -190,7 +212,7 @@ module _ (b : Book) (o : Option Grid) (fit : Fit b) (sheet : SheetFit b o) (two 
       (small-append (contents (contentsEnd (length ps)) ps) (bodies ps)
       (contents-small (contentsEnd (length ps)) ps (omega arith) parts-small) (bodies-small ps parts-small)))
 
--- ---- a file that is as long as any: 32 seats, 24 windows, a sheet, a first seat and balances
+-- ---- a file that is as long as any: 32 seats, 24 windows, a sheet, a first seat, balances and weights
 
 abbrev pub longBook : Book
 longBook =
@@ -200,6 +222,7 @@ longBook =
       caps = sizedGrid 32 24 [];
       first = some 1;
       balances = some (table 32 (λ i. 0));
+      weights = some (table 8 (λ i. i + 1));
     }
 
 abbrev pub longSheet : Grid
@@ -240,6 +263,11 @@ long-fits =
         table-length 32 (λ i. 0) ∙ sym s,
         λ i h. omega (arith, table-at {A = ℕ} 32 (λ i. 0) i 0 (omega arith)),
       );
+      weights-fit = (
+        table-length 8 (λ i. i + 1),
+        λ k l. let e = table-at {A = ℕ} 8 (λ i. i + 1) k 0 l in (omega (arith, e), omega (arith, e)),
+        λ k l. omega (arith, table-at {A = ℕ} 8 (λ i. i + 1) k 0 (omega arith), table-at {A = ℕ} 8 (λ i. i + 1) (suc k) 0 l),
+      );
     }
 
 pub long-sheet-fits : SheetFit longBook (some longSheet)
@@ -255,4 +283,5 @@ long-length =
     let w = long-windows in
     let e = file-length longBook (some longSheet) in
     let k = table-length {A = ℕ} 32 (λ i. 0) in
+    let v = table-length {A = ℕ} 8 (λ i. i + 1) in
     let c = flat-length 32 24 (sizedGrid 32 24 []) (sized-shaped 32 24 []) in omega arith

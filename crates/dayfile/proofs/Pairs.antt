@@ -8,13 +8,13 @@ use native.Mathlib.Omega.{arith}
 use lib.Dec.{eqb}
 use lib.ListN.{length, getD, replicate}
 use borrow.Author.Tests.{eqb-true, eq-eqb}
-use Rattle.fairness.specs.Classes.{weightOf}
+use Rattle.fairness.specs.Classes.{classWeights}
 use Rattle.fairness.specs.Leximin.{Level, table}
 use Rattle.fairness.proofs.Alike.{Alike, alike-profile, alike-feasible}
 use Rattle.lists.proofs.Arrays.{zeros-at}
 use Rattle.lists.proofs.Tables.{table-at}
 use Rattle.model.specs.Book.{Book, Grid, SheetOf, Lawful, cell, seats, windows, withFirst, firstSeat, placeFrom, balanceOf, balancesOf}
-use Rattle.model.specs.Book.{withBalances, instanceOf}
+use Rattle.model.specs.Book.{withBalances, withWeights, weightsOf, weightIn, instanceOf}
 use Rattle.model.specs.Fair.{profileOf, HighestList}
 use Rattle.model.proofs.Tests.{and-true}
 use Rattle.model.proofs.Theorems.{first-profile, first-lawful}
@@ -50,18 +50,21 @@ pub record SameParts (b c : Book) : Type 0 where
   pub supplies : b .supplies ≡ c .supplies
   pub caps : b .caps ≡ c .caps
   pub balances : balancesOf b ≡ balancesOf c
+  pub weights : weightsOf b ≡ weightsOf c
 
 pub same-parts : (b c : Book) → sameBook b c ≡ true → SameParts b c
 unfolding sameBook
 same-parts b c e =
     let first = and-true (alike eqb (b .classes) (c .classes)) _ .0 e in
     let rest = and-true (alike eqb (b .supplies) (c .supplies)) _ .0 (first .1) in
-    let last = and-true (alike (alike eqb) (b .caps) (c .caps)) _ .0 (rest .1) in
+    let more = and-true (alike (alike eqb) (b .caps) (c .caps)) _ .0 (rest .1) in
+    let last = and-true (alike eqb (balancesOf b) (balancesOf c)) _ .0 (more .1) in
     record {
       classes = alike-same eqb eqb-true _ _ (first .0);
       supplies = alike-same eqb eqb-true _ _ (rest .0);
-      caps = alike-same (alike eqb) (alike-same eqb eqb-true) _ _ (last .0);
-      balances = alike-same eqb eqb-true _ _ (last .1);
+      caps = alike-same (alike eqb) (alike-same eqb eqb-true) _ _ (more .0);
+      balances = alike-same eqb eqb-true _ _ (last .0);
+      weights = alike-same eqb eqb-true _ _ (last .1);
     }
 
 pub parts-same : (b c : Book) → SameParts b c → sameBook b c ≡ true
@@ -69,6 +72,7 @@ unfolding sameBook
 parts-same b c h =
     rw (
       h .balances,
+      h .weights,
       h .classes,
       h .supplies,
       h .caps,
@@ -76,6 +80,7 @@ parts-same b c h =
       alike-itself eqb eqb-itself (c .supplies),
       alike-itself (alike eqb) (alike-itself eqb eqb-itself) (c .caps),
       alike-itself eqb eqb-itself (balancesOf c),
+      alike-itself eqb eqb-itself (weightsOf c),
     ) refl
 
 -- a book without balances and one with zeros are one book
@@ -87,16 +92,28 @@ zeros-one-book b =
       supplies = refl;
       caps = refl;
       balances = ap (table (seats b)) (fun-ext (λ i. sym (zeros-at (seats b) i)));
+      weights = refl;
     })
+
+-- and so are a book without weights of its own and one with paper 01's
+pub built-in-one-book : (b : Book) → sameBook (withWeights none b) (withWeights (some classWeights) b) ≡ true
+unfolding balancesOf
+built-in-one-book b = parts-same _ _ (record { classes = refl; supplies = refl; caps = refl; balances = refl; weights = refl })
 
 -- ---- what is said of a sheet by these parts alone
 
 pub parts-itself : (b : Book) → SameParts b b
-parts-itself b = record { classes = refl; supplies = refl; caps = refl; balances = refl }
+parts-itself b = record { classes = refl; supplies = refl; caps = refl; balances = refl; weights = refl }
 
 pub parts-back : (b c : Book) → SameParts b c → SameParts c b
 parts-back b c h =
-    record { classes = sym (h .classes); supplies = sym (h .supplies); caps = sym (h .caps); balances = sym (h .balances) }
+    record {
+      classes = sym (h .classes);
+      supplies = sym (h .supplies);
+      caps = sym (h .caps);
+      balances = sym (h .balances);
+      weights = sym (h .weights);
+    }
 
 module _ (b c : Book) (h : SameParts b c) where
   pub parts-seats : seats b ≡ seats c
@@ -120,7 +137,7 @@ module _ (b c : Book) (h : SameParts b c) where
         windows = parts-windows;
         caps = λ i j li lj. ap (λ (g : Grid). cell g i j) (h .caps);
         supplies = λ j lj. ap (λ (xs : List ℕ). getD xs j 0) (h .supplies);
-        weights = λ i li. ap (λ (xs : List ℕ). weightOf (getD xs i 0)) (h .classes);
+        weights = λ i li. ap₂ (λ (ws xs : List ℕ). weightIn ws (getD xs i 0)) (h .weights) (h .classes);
         bases = same-balance;
         positions = λ i li. ap (λ (n : ℕ). placeFrom (firstSeat c) n i) parts-seats;
         cells = λ i j li lj. refl;

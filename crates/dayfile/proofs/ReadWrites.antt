@@ -14,7 +14,7 @@ use Rattle.fairness.specs.Leximin.{table}
 use Rattle.model.specs.Lowest.{andThen}
 use Rattle.model.proofs.Lowest.{lowest-some}
 use Rattle.dayfile.specs.Layout.{Bytes, field, count, contentsEnd, kind, start, size, ends, seatsIn, windowsIn, entryOf}
-use Rattle.dayfile.specs.Layout.{fieldsAt, gridIn, firstIn, balancesIn, bookOf, sheetOf}
+use Rattle.dayfile.specs.Layout.{fieldsAt, gridIn, firstIn, balancesIn, weightsIn, bookOf, sheetOf}
 use Rattle.dayfile.specs.File.{bytesOf, Part, part, contents, bodies, fieldsOf, assemble, flat, optPart, optParts, flatIf}
 use Rattle.dayfile.specs.File.{oneIf, partsOf, fileOf}
 use Rattle.dayfile.specs.Table.{known}
@@ -222,21 +222,23 @@ module _ (f : List ℕ) (s : Sound f) where
   seat-body none q = refl
   seat-body (some e) q = ap some (one-field (start f e) (size f e / 2) (entry-size 5 e q))
 
-  -- balances are the fields of their body
-  balances-body : (r : Option ℕ) → entryOf f 6 ≡ r → andThen r (λ e. some (fieldsAt f (start f e) (seatsIn f))) ≡ bodyIf r
-  balances-body none q = refl
-  balances-body (some e) q = ap some (ap (fieldsAt f (start f e)) (sym (entry-size 6 e q)))
+  -- balances and weights are the fields of their bodies
+  list-body : (k : ℕ) (r : Option ℕ) → entryOf f k ≡ r → andThen r (λ e. some (fieldsAt f (start f e) (bodyFields f k))) ≡ bodyIf r
+  list-body k none q = refl
+  list-body k (some e) q = ap some (ap (fieldsAt f (start f e)) (sym (entry-size k e q)))
 
   tail-is : optParts (bookOf f) (sheetOf f) ≡ pieces-from 3
-  unfolding optParts sheetOf bookOf firstIn balancesIn
+  unfolding optParts sheetOf bookOf firstIn balancesIn weightsIn
   tail-is =
       let first = split-first f (s .order) in
       let four = peel 3 4 first in
       let five = peel (four .next) 5 (four .split) in
       let six = peel (five .next) 6 (five .split) in
+      let seven = peel (six .next) 7 (six .split) in
       peel-as 3 4 first (sheet-body (entryOf f 4) refl)
       (peel-as (four .next) 5 (four .split) (seat-body (entryOf f 5) refl)
-      (peel-as (five .next) 6 (five .split) (balances-body (entryOf f 6) refl) (no-more (six .next) (six .split))))
+      (peel-as (five .next) 6 (five .split) (list-body 6 (entryOf f 6) refl)
+      (peel-as (six .next) 7 (six .split) (list-body 7 (entryOf f 7) refl) (no-more (seven .next) (seven .split)))))
 
   parts-are : partsOf (bookOf f) (sheetOf f) ≡ run piece 0 (count f)
   unfolding partsOf bookOf run

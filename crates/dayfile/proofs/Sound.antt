@@ -18,7 +18,7 @@ use Rattle.dayfile.specs.Layout.{field, count, contentsEnd, kind, start,
 use Rattle.dayfile.specs.Layout.{entryOf}
 use Rattle.dayfile.specs.Table.{firstOf, within, offset, known, kindRight, sizeRight, gridRight, numberRight, wrongField, outside}
 use Rattle.dayfile.specs.Table.{line1, line2, line3, line4, line5, line6, line7, line8, line9, line10, line11, line12}
-use Rattle.dayfile.specs.Table.{wrongFields, line18, line19, contentsLines, lengthLines, valueLines, optionLines, readLines}
+use Rattle.dayfile.specs.Table.{wrongFields, line18, line19, line20, contentsLines, lengthLines, valueLines, optionLines, readLines}
 use Rattle.dayfile.proofs.Tests.{within-low, within-high, when-none}
 use Rattle.dayfile.proofs.Search.{offset-none}
 use Rattle.dayfile.proofs.Lines.{none-holds, none-parts}
@@ -28,7 +28,7 @@ use Rattle.dayfile.proofs.Rising.{InOrder, kind-one, kind-two, kind-thr
 abbrev pub bodyFields : List ℕ → ℕ → ℕ
 bodyFields f k =
     let n : ℕ = seatsIn f in
-    let m : ℕ = windowsIn f in getD (0 ∷ n ∷ m ∷ n * m ∷ n * m ∷ 1 ∷ n ∷ []) k 0
+    let m : ℕ = windowsIn f in getD (0 ∷ n ∷ m ∷ n * m ∷ n * m ∷ 1 ∷ n ∷ 8 ∷ []) k 0
 
 -- each of n fields from an offset on is right
 abbrev pub FieldsRight : List ℕ → ℕ → ℕ → ℕ → ℕ → Bool → Type 0
@@ -53,6 +53,7 @@ pub record Sound (f : List ℕ) : Type 0 where
   pub caps : FieldsWithin f (start f 2) (seatsIn f * windowsIn f) 0 4095
   pub first : (e : ℕ) → entryOf f 5 ≡ some e → FieldsWithin f (start f e) 1 1 (seatsIn f)
   pub balances : (e : ℕ) → entryOf f 6 ≡ some e → FieldsWithin f (start f e) (seatsIn f) 0 50000
+  pub weights : (e : ℕ) → entryOf f 7 ≡ some e → FieldsRight f (start f e) 8 1 1000 true
 
 -- ---- line by line
 
@@ -164,7 +165,7 @@ module _ (f : List ℕ) (free : firstOf (readLines f) ≡ none) where
 
   pub sound : Sound f
   unfolding contentsLines lengthLines valueLines optionLines line1 line2 line3 line4 line5 line6 line7 line8 line9 line10 line11 line12
-      line18 line19
+      line18 line19 line20
   sound =
       let n = none-holds (contentsLines f) (parts .0) in
       let l = none-holds (lengthLines f) (parts .1) in
@@ -186,6 +187,9 @@ module _ (f : List ℕ) (free : firstOf (readLines f) ≡ none) where
       let carried = listed-at f 6 (seatsIn f) 0 50000 false (w .1 .0) in
       let each : (e : ℕ) → e < count f → kind f e ≡ 6 → size f e ≡ 2 * seatsIn f =
       λ e h q. carried e (entry-is f o e 6 (omega arith) h q) .long in
+      let own = listed-at f 7 8 1 1000 true (w .1 .1 .0) in
+      let table : (e : ℕ) → e < count f → kind f e ≡ 7 → size f e ≡ 2 * 8 =
+      λ e h q. own e (entry-is f o e 7 (omega arith) h q) .long in
       record {
         order = o;
         room = ltb-false (length f) (contentsEnd (count f)) (when-none _ (length f) (n .1 .1 .0));
@@ -197,10 +201,11 @@ module _ (f : List ℕ) (free : firstOf (readLines f) ≡ none) where
         windows-high = eight .most;
         sizes = sized-all f o (omega arith) (omega arith)
             (sized-step f o 3 (nine 3 refl) (sized-step f o 4 (nine 4 refl)
-            (sized-step f o 5 one (sized-step f o 6 each (sized-last f o)))));
+            (sized-step f o 5 one (sized-step f o 6 each (sized-step f o 7 table (sized-last f o))))));
         classes = none-outside f (start f 0) (seatsIn f) 1 8 (v .0);
         supplies = none-outside f (start f 1) (windowsIn f) 0 4095 (v .1 .0);
         caps = none-outside f (start f 2) (seatsIn f * windowsIn f) 0 4095 (v .1 .1 .0);
         first = λ e q. seat e q .fields;
         balances = λ e q. carried e q .fields;
+        weights = λ e q. own e q .fields;
       }

@@ -5,7 +5,7 @@ use mathlib.Core.Path.{_≡_, refl, sym, _∙_, ap, ap₂}
 use Prim.Native.Nat.{ℕ, zero, suc, _+_, _≤_, _<_}
 use native.Mathlib.Nat.{add-zero}
 use native.Mathlib.Omega.{arith}
-use lib.ListN.{length, getD}
+use lib.ListN.{length, getD, replicate}
 use Rattle.fairness.specs.Leximin.{table}
 use Rattle.lists.proofs.Tables.{table-length, table-at, table-same, table-all, table-more}
 use Rattle.model.specs.Book.{Grid, Shaped}
@@ -57,6 +57,12 @@ sized-length n xs = table-length n (λ i. getD xs i 0)
 pub sized-one : (x : ℕ) → sized 1 (x ∷ []) ≡ x ∷ []
 unfolding sized table
 sized-one x = refl
+
+-- no numbers in an array of zeros
+pub sized-none : (n : ℕ) → sized n [] ≡ replicate n 0
+unfolding sized table
+sized-none zero = refl
+sized-none (suc n) = ap (λ (xs : List ℕ). 0 ∷ xs) (sized-none n)
 
 pub sized-at : (n : ℕ) (xs : List ℕ) (i : ℕ) → i < n → getD (sized n xs) i 0 ≡ getD xs i 0
 unfolding sized

@@ -3,13 +3,13 @@
 use mathlib.Core.Bool.{Bool, true, false, not, cond, _&&_}
 use mathlib.Core.Option.{Option, none, some}
 use mathlib.Core.Path.{_≡_, refl, sym, _∙_, ap, ap₂}
-use Prim.Native.Nat.{ℕ, _≤_}
+use Prim.Native.Nat.{ℕ, _≤_, _<_}
 use native.Mathlib.Omega.{arith}
-use lib.Dec.{leb}
-use borrow.Author.Tests.{leb-true, le-leb}
+use lib.Dec.{leb, ltb}
+use borrow.Author.Tests.{leb-true, le-leb, ltb-true, lt-ltb}
 use Rattle.model.specs.Lowest.{when}
 use Rattle.model.proofs.Tests.{and-true}
-use Rattle.dayfile.specs.Table.{within}
+use Rattle.dayfile.specs.Table.{within, rightAfter}
 
 pub and-yes : {a : Bool} (b : Bool) → a ≡ true → b ≡ (a && b)
 and-yes b p = ap (λ (x : Bool). x && b) (sym p)
@@ -40,6 +40,23 @@ high-as low high {x} {y} q e = within-high low high x (ap (within low high) q �
 
 pub is-within : (low high x : ℕ) → low ≤ x → x ≤ high → within low high x ≡ true
 is-within low high x h k = ap₂ (λ (a b : Bool). a && b) (le-leb low x h) (le-leb x high k)
+
+-- ---- and greater than the one before
+
+pub rises-within : (low high before x : ℕ) → before < x → low ≤ x → x ≤ high → rightAfter low high true before x ≡ true
+rises-within low high before x r h k = ap₂ (λ (a b : Bool). a && b) (lt-ltb before x r) (is-within low high x h k)
+
+module _ (low high before x : ℕ) (e : rightAfter low high true before x ≡ true) where
+  pub after-rises : before < x
+  after-rises = ltb-true before x (and-true (ltb before x) (within low high x) .0 e .0)
+
+  pub after-low : low ≤ x
+  after-low = within-low low high x (and-true (ltb before x) (within low high x) .0 e .1)
+
+  pub after-high : x ≤ high
+  after-high = within-high low high x (and-true (ltb before x) (within low high x) .0 e .1)
+
+-- ---- a number that is told
 
 -- the code's test of a number that is told
 pub within-as : (low high x : ℕ) {t : Bool} {y : ℕ} → t ≡ within low high x → x ≡ y → t ≡ within low high y

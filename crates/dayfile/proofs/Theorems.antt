@@ -43,8 +43,9 @@ accepted-exactly f = (
 )
 
 -- the book of an accepted file has 1 to 32 seats, 1 to 24 windows, classes 1 to 8, supplies and caps up to 4,095 and a cap for each seat
--- and window; a first seat, if one is named, is one of its seats, and balances, if there are any, are one for each seat, up to 50,000; its
--- sheet, if there is one, has a cell for each seat and window, and each is a two-byte number
+-- and window; a first seat, if one is named, is one of its seats; balances, if there are any, are one for each seat, up to 50,000; weights,
+-- if there are any, are eight, 1 to 1,000, each greater than the one before; its sheet, if there is one, has a cell for each seat and
+-- window, and each is a two-byte number
 pub accepted-fits : (f : List ℕ) (b : Book) (s : Option Grid) → readFile f ≡ answer (b, s)
     → Fit b × SheetFit b s × (Bytes f → TwoByte b s)
 unfolding readFile

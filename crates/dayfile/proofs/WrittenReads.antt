@@ -12,14 +12,14 @@ use borrow.Author.Tests.{eq-eqb, le-ltb}
 use Rattle.model.specs.Lowest.{lowest, when, orElse, andThen}
 use Rattle.model.specs.Book.{Book, Grid, Shaped, seats, windows}
 use Rattle.model.proofs.Lowest.{lowest-fails}
-use Rattle.dayfile.specs.Bounds.{Fit, FirstFit, BalancesFit, SheetFit}
+use Rattle.dayfile.specs.Bounds.{Fit, FirstFit, BalancesFit, WeightsFit, SheetFit}
 use Rattle.dayfile.specs.Layout.{field, count, contentsEnd, kind, start, size, ends, seatsIn, windowsIn, kindAt, startAt, sizeAt}
-use Rattle.dayfile.specs.Layout.{entryOf, fieldsAt, gridAt, gridIn, firstIn, balancesIn, bookOf, sheetOf}
+use Rattle.dayfile.specs.Layout.{entryOf, fieldsAt, gridAt, gridIn, firstIn, balancesIn, weightsIn, bookOf, sheetOf}
 use Rattle.dayfile.specs.File.{Part, part, partsOf, flatIf, oneIf, optPart, optParts, flat, assemble, fileOf}
 use Rattle.dayfile.specs.Table.{firstOf, within, offset, known, kindRight, sizeRight, gridRight, numberRight, wrongField, outside}
 use Rattle.dayfile.specs.Table.{line1, line2, line3, line4, line5, line6, line7, line8, line9, line10, line11, line12}
-use Rattle.dayfile.specs.Table.{wrongFields, line18, line19, contentsLines, lengthLines, valueLines, optionLines, readLines}
-use Rattle.dayfile.proofs.Tests.{is-within, within-low, within-high, cond-no}
+use Rattle.dayfile.specs.Table.{wrongFields, line18, line19, line20, contentsLines, lengthLines, valueLines, optionLines, readLines}
+use Rattle.dayfile.proofs.Tests.{is-within, within-low, within-high, rises-within, after-low, after-high, after-rises, cond-no}
 use Rattle.dayfile.proofs.Search.{right-same}
 use Rattle.dayfile.proofs.Fields.{fields-at}
 use Rattle.dayfile.proofs.Grids.{flat-length, flat-cell, grid-there}
@@ -34,7 +34,7 @@ abbrev pub AllRight : ℕ → ℕ → Bool → List ℕ → Type 0
 AllRight low high rising xs = (i : ℕ) → i < length xs → numberRight low high rising (λ k. getD xs k 0) i ≡ true
 
 -- the fields of an offset are the numbers of a list
-same-right : (f : List ℕ) (at low high : ℕ) (rising : Bool) (xs : List ℕ) → fieldsAt f at (length xs) ≡ xs → (i : ℕ) → i < length xs
+pub same-right : (f : List ℕ) (at low high : ℕ) (rising : Bool) (xs : List ℕ) → fieldsAt f at (length xs) ≡ xs → (i : ℕ) → i < length xs
     → numberRight low high rising (λ k. field f (at + 2 * k)) i ≡ numberRight low high rising (λ k. getD xs k 0) i
 same-right f at low high rising xs q i l =
     right-same low high rising (λ k. field f (at + 2 * k)) (λ k. getD xs k 0) i
@@ -118,6 +118,27 @@ list-balances n none h = tt
 list-balances n (some xs) h =
     let long = h .0 in (long, λ i l. within-high 0 50000 (getD xs i 0) (h .1 i (omega arith)))
 
+-- weights are eight numbers that rise
+weights-list : (o : Option (List ℕ)) → WeightsFit o → IfThere (ListFit 8 1 1000 true) o
+weights-list none h = tt
+weights-list (some ws) h = (h .0, each)
+  where
+    each : AllRight 1 1000 true ws
+    each zero l =
+        let b = h .1 0 (omega arith) in rises-within 1 1000 0 (getD ws 0 0) (b .0) (b .0) (b .1)
+    each (suc k) l =
+        let long = h .0 in
+        let b = h .1 (suc k) (omega arith) in rises-within 1 1000 (getD ws k 0) (getD ws (suc k) 0) (h .2 k (omega arith)) (b .0) (b .1)
+
+pub list-weights : (o : Option (List ℕ)) → IfThere (ListFit 8 1 1000 true) o → WeightsFit o
+list-weights none h = tt
+list-weights (some ws) h =
+    let long = h .0 in (
+      long,
+      λ k l. let r = h .1 k (omega arith) in (after-low 1 1000 _ (getD ws k 0) r, after-high 1 1000 _ (getD ws k 0) r),
+      λ k l. after-rises 1 1000 (getD ws k 0) (getD ws (suc k) 0) (h .1 (suc k) (omega arith)),
+    )
+
 -- kinds 3 and 4 have grids of n numbers
 abbrev GridPart : ℕ → Part → Type 0
 GridPart n p = within 3 4 (p .sort) ≡ true → length (p .body) ≡ n
@@ -147,14 +168,20 @@ module _ (b : Book) (o : Option Grid) where
 
   -- ---- the parts that may be missing
 
+  abbrev end : List Part
+  end = optPart 7 (b .weights) ++ []
+
   abbrev last : List Part
-  last = optPart 6 (b .balances) ++ []
+  last = optPart 6 (b .balances) ++ end
 
   abbrev tail : List Part
   tail = optPart 5 (oneIf (b .first)) ++ last
 
+  end-above : Above 7 end
+  end-above = above-opt 7 (b .weights) [] (omega arith) tt
+
   last-above : Above 6 last
-  last-above = above-opt 6 (b .balances) [] (omega arith) tt
+  last-above = above-opt 6 (b .balances) end (omega arith) end-above
 
   tail-above : Above 5 tail
   tail-above = above-opt 5 (oneIf (b .first)) last (omega arith) last-above
@@ -167,7 +194,8 @@ module _ (b : Book) (o : Option Grid) where
   unfolding optParts
   few =
       let e = few-opt 4 (flatIf o) tail in
-      let g = few-opt 5 (oneIf (b .first)) last in let h = few-opt 6 (b .balances) [] in omega arith
+      let g = few-opt 5 (oneIf (b .first)) last in
+      let h = few-opt 6 (b .balances) end in let i = few-opt 7 (b .weights) [] in omega arith
 
   -- ---- the file
 
@@ -223,7 +251,7 @@ module _ (b : Book) (o : Option Grid) where
 
   -- ---- where the parts that may be missing lie
 
-  -- how many fields stand before the sheet's body, before the first seat's and before the balances
+  -- how many fields stand before the sheet's body, before the first seat's, before the balances and before the weights
   abbrev lists : ℕ
   lists = S + W + length (flat (b .caps))
 
@@ -232,6 +260,9 @@ module _ (b : Book) (o : Option Grid) where
 
   abbrev behind : ℕ
   behind = ahead + lengthIf (oneIf (b .first))
+
+  abbrev beyond : ℕ
+  beyond = behind + lengthIf (b .balances)
 
   sheet-look : Looked (length ps) ps refl order-f 4 lists (flatIf o) tail
   unfolding optParts
@@ -247,9 +278,13 @@ module _ (b : Book) (o : Option Grid) where
   first-look =
       look (length ps) ps refl order-f (sheet-look .next) 5 ahead (oneIf (b .first)) last (sheet-look .split) (sheet-look .tail) last-above
 
-  balances-look : Looked (length ps) ps refl order-f 6 behind (b .balances) []
+  balances-look : Looked (length ps) ps refl order-f 6 behind (b .balances) end
   balances-look =
-      look (length ps) ps refl order-f (first-look .next) 6 behind (b .balances) [] (first-look .split) (first-look .tail) tt
+      look (length ps) ps refl order-f (first-look .next) 6 behind (b .balances) end (first-look .split) (first-look .tail) end-above
+
+  weights-look : Looked (length ps) ps refl order-f 7 beyond (b .weights) []
+  weights-look =
+      look (length ps) ps refl order-f (balances-look .next) 7 beyond (b .weights) [] (balances-look .split) (balances-look .tail) tt
 
   -- a body of one number
   one-f : (e x : ℕ) → e < length ps → nth ps e .body ≡ x ∷ [] → field f (start f e) ≡ x
@@ -261,7 +296,7 @@ module _ (b : Book) (o : Option Grid) where
       ∙ sym (fields-at f at n 0 (omega arith))
       ∙ ap (λ (xs : List ℕ). getD xs 0 0) (body-f e h ∙ q)
 
-  -- how many seats its lines go by, and where the bodies of the first seat and of the balances lie
+  -- how many seats its lines go by, and where the bodies of the first seat, of the balances and of the weights lie
   pub written-seats : seatsIn (fileOf b o) ≡ seats b
   unfolding fileOf partsOf
   written-seats = seats-f
@@ -277,6 +312,12 @@ module _ (b : Book) (o : Option Grid) where
   unfolding fileOf partsOf
   balances-at = balances-look .body
 
+  pub weights-at : BodyAt (partsOf b o)
+      (seats b + windows b + length (flat (b .caps)) + lengthIf (flatIf o) + lengthIf (oneIf (b .first)) + lengthIf (b .balances))
+      (entryOf (fileOf b o) 7) (b .weights)
+  unfolding fileOf partsOf
+  weights-at = weights-look .body
+
   module _ (fit : Fit b) (sheet : SheetFit b o) where
     -- ---- the parts that may be missing
 
@@ -285,7 +326,8 @@ module _ (b : Book) (o : Option Grid) where
     grids =
         each-opt (GridPart (S * W)) 4 (flatIf o) tail (sheet-grid b o sheet)
         (each-opt (GridPart (S * W)) 5 (oneIf (b .first)) last (no-grid (S * W) 5 refl (oneIf (b .first)))
-        (each-opt (GridPart (S * W)) 6 (b .balances) [] (no-grid (S * W) 6 refl (b .balances)) tt))
+        (each-opt (GridPart (S * W)) 6 (b .balances) end (no-grid (S * W) 6 refl (b .balances))
+        (each-opt (GridPart (S * W)) 7 (b .weights) [] (no-grid (S * W) 7 refl (b .weights)) tt)))
 
     cells : seatsIn f * windowsIn f ≡ S * W
     cells = ap₂ (λ (x y : ℕ). x * y) seats-f windows-f
@@ -408,14 +450,19 @@ module _ (b : Book) (o : Option Grid) where
         ∙ fits-none ps behind S 0 50000 false (entryOf f 6) (b .balances) (balances-look .body)
         (balances-list S (b .balances) (fit .balances-fit))
 
+    at20 : line20 f ≡ none
+    unfolding line20
+    at20 =
+        fits-none ps beyond 8 1 1000 true (entryOf f 7) (b .weights) (weights-look .body) (weights-list (b .weights) (fit .weights-fit))
+
     no-line : firstOf (readLines f) ≡ none
     unfolding readLines contentsLines lengthLines valueLines optionLines
-    no-line = rw (at1, at2, at3, at4, at5, at6, at7, at8, at9, at10, at11, at12, at18, at19)
+    no-line = rw (at1, at2, at3, at4, at5, at6, at7, at8, at9, at10, at11, at12, at18, at19, at20)
 
     -- ---- what the file holds
 
-    abbrev made : List ℕ → List ℕ → Grid → Option ℕ → Option (List ℕ) → Book
-    made x y z k xs = record { classes = x; supplies = y; caps = z; first = k; balances = xs }
+    abbrev made : List ℕ → List ℕ → Grid → Option ℕ → Option (List ℕ) → Option (List ℕ) → Book
+    made x y z k xs ws = record { classes = x; supplies = y; caps = z; first = k; balances = xs; weights = ws }
 
     seat-at : (r k : Option ℕ) → BodyAt ps ahead r (oneIf k) → andThen r (λ e. some (field f (start f e))) ≡ k
     seat-at none none h = refl
@@ -423,14 +470,14 @@ module _ (b : Book) (o : Option Grid) where
     seat-at (some e) none h = absurd h
     seat-at (some e) (some x) h = ap some (one-f e x (h .0) (h .1))
 
-    -- a number for each seat
-    list-at : (r : Option ℕ) (l : Option (List ℕ)) → BodyAt ps behind r l → BalancesFit S l
-        → andThen r (λ e. some (fieldsAt f (start f e) (seatsIn f))) ≡ l
-    list-at none none h g = refl
-    list-at none (some xs) h g = absurd h
-    list-at (some e) none h g = absurd h
-    list-at (some e) (some xs) h g =
-        ap some (ap (fieldsAt f (start f e)) (seats-f ∙ sym (g .0) ∙ ap length (sym (h .1))) ∙ body-f e (h .0) ∙ h .1)
+    -- n numbers
+    list-at : (k n low high : ℕ) (up : Bool) (r : Option ℕ) (l : Option (List ℕ)) → BodyAt ps k r l → IfThere (ListFit n low high up) l
+        → andThen r (λ e. some (fieldsAt f (start f e) n)) ≡ l
+    list-at k n low high up none none h g = refl
+    list-at k n low high up none (some xs) h g = absurd h
+    list-at k n low high up (some e) none h g = absurd h
+    list-at k n low high up (some e) (some xs) h g =
+        ap some (ap (fieldsAt f (start f e)) (sym (g .0) ∙ ap length (sym (h .1))) ∙ body-f e (h .0) ∙ h .1)
 
     grid-f : (e : ℕ) (g : Grid) → e < length ps → nth ps e .body ≡ flat g → Shaped S W g
         → gridIn f e ≡ g
@@ -440,15 +487,18 @@ module _ (b : Book) (o : Option Grid) where
         (ap (λ (xs : List ℕ). fieldsAt f (start f e) (length xs)) (sym q) ∙ body-f e h ∙ q)
 
     book-is : bookOf f ≡ b
-    unfolding bookOf firstIn balancesIn
+    unfolding bookOf firstIn balancesIn weightsIn
     book-is =
-        ap₂ (λ (x y : List ℕ). made x y (gridIn f 2) (firstIn f) (balancesIn f))
+        ap₂ (λ (x y : List ℕ). made x y (gridIn f 2) (firstIn f) (balancesIn f) (weightsIn f))
         (ap (fieldsAt f (start f 0)) seats-f ∙ body-f 0 (omega arith))
         (ap (fieldsAt f (start f 1)) windows-f ∙ body-f 1 (omega arith))
-        ∙ ap₂ (λ (z : Grid) (k : Option ℕ). made (b .classes) (b .supplies) z k (balancesIn f))
+        ∙ ap₂ (λ (z : Grid) (k : Option ℕ). made (b .classes) (b .supplies) z k (balancesIn f) (weightsIn f))
         (grid-f 2 (b .caps) (omega arith) refl (fit .cap-shape)) (seat-at (entryOf f 5) (b .first) (first-look .body))
-        ∙ ap (made (b .classes) (b .supplies) (b .caps) (b .first))
-        (list-at (entryOf f 6) (b .balances) (balances-look .body) (fit .balances-fit))
+        ∙ ap₂ (made (b .classes) (b .supplies) (b .caps) (b .first))
+        (ap (λ (n : ℕ). andThen (entryOf f 6) (λ e. some (fieldsAt f (start f e) n))) seats-f
+        ∙ list-at behind S 0 50000 false (entryOf f 6) (b .balances) (balances-look .body)
+        (balances-list S (b .balances) (fit .balances-fit)))
+        (list-at beyond 8 1 1000 true (entryOf f 7) (b .weights) (weights-look .body) (weights-list (b .weights) (fit .weights-fit)))
 
     -- a grid of a kind that may be missing
     grid-at : (r : Option ℕ) (g : Option Grid) → SheetFit b g → BodyAt ps lists r (flatIf g)

@@ -2,7 +2,7 @@
 use mathlib.Core.Option.{Option, none, some}
 use mathlib.Core.Path.{_≡_}
 use mathlib.Core.List.{List}
-use Prim.Native.Nat.{ℕ, _≤_, _<_}
+use Prim.Native.Nat.{ℕ, suc, _≤_, _<_}
 use lib.ListN.{length, getD}
 use Rattle.model.specs.Book.{Book, Grid, Shaped, SheetOf, cell, seats, windows}
 
@@ -16,8 +16,15 @@ abbrev pub BalancesFit : ℕ → Option (List ℕ) → Type 0
 BalancesFit n none = Unit {0}
 BalancesFit n (some xs) = (length xs ≡ n) × ((i : ℕ) → i < n → getD xs i 0 ≤ 50000)
 
+-- weights are eight, 1 to 1,000, each greater than the one before
+abbrev pub WeightsFit : Option (List ℕ) → Type 0
+WeightsFit none = Unit {0}
+WeightsFit (some ws) =
+    (length ws ≡ 8)
+    × ((k : ℕ) → k < 8 → (1 ≤ getD ws k 0) × (getD ws k 0 ≤ 1000)) × ((k : ℕ) → suc k < 8 → getD ws k 0 < getD ws (suc k) 0)
+
 -- 1 to 32 seats, 1 to 24 windows; classes 1 to 8; supplies and caps 0 to 4,095; a cap for each seat and window; a first seat of the book;
--- balances
+-- balances; weights
 pub record Fit (b : Book) : Type 0 where
   pub seats-low : 1 ≤ seats b
   pub seats-high : seats b ≤ 32
@@ -30,6 +37,7 @@ pub record Fit (b : Book) : Type 0 where
   pub cap-high : (i j : ℕ) → i < seats b → j < windows b → cell (b .caps) i j ≤ 4095
   pub first-seat : FirstFit (seats b) (b .first)
   pub balances-fit : BalancesFit (seats b) (b .balances)
+  pub weights-fit : WeightsFit (b .weights)
 
 -- a sheet has one cell per seat and window; it may be missing
 abbrev pub SheetFit : Book → Option Grid → Type 0
@@ -41,6 +49,6 @@ abbrev pub TwoByte : Book → Option Grid → Type 0
 TwoByte b none = Unit {0}
 TwoByte b (some s) = (i j : ℕ) → i < seats b → j < windows b → cell s i j < 65536
 
--- the longest file has 32 seats, 24 windows, a sheet, a first seat and balances
+-- the longest file has 32 seats, 24 windows, a sheet, a first seat, balances and weights
 abbrev pub longestFile : ℕ
-longestFile = 3288
+longestFile = 3310

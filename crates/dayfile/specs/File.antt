@@ -1,5 +1,5 @@
--- Paper 01, "The day file", with paper 02's kinds 5 and 6: the file of a book, with or without a sheet. A file is a list of parts, and its
--- contents, its offsets and its bytes are computed from that list.
+-- Paper 01, "The day file", with paper 02's kinds 5, 6 and 7: the file of a book, with or without a sheet. A file is a list of parts, and
+-- its contents, its offsets and its bytes are computed from that list.
 use mathlib.Core.List.{List, [], _∷_, _++_}
 use mathlib.Core.Option.{Option, none, some}
 use Prim.Native.Nat.{ℕ, _+_, _*_, _/_, _%_}
@@ -59,7 +59,7 @@ optPart k (some xs) = part k xs ∷ []
 
 -- the parts that may be missing, in the order of their kinds
 unfoldable pub optParts : Book → Option Grid → List Part
-optParts b s = optPart 4 (flatIf s) ++ (optPart 5 (oneIf (b .first)) ++ (optPart 6 (b .balances) ++ []))
+optParts b s = optPart 4 (flatIf s) ++ (optPart 5 (oneIf (b .first)) ++ (optPart 6 (b .balances) ++ (optPart 7 (b .weights) ++ [])))
 
 unfoldable pub partsOf : Book → Option Grid → List Part
 partsOf b s = part 1 (b .classes) ∷ part 2 (b .supplies) ∷ part 3 (flat (b .caps)) ∷ optParts b s

@@ -1,4 +1,4 @@
--- Paper 01, "The day file", with paper 02's kinds 5 and 6: its fields, its table of contents, and the book and the sheet that it holds.
+-- Paper 01, "The day file", with paper 02's kinds 5, 6 and 7: its fields, its table of contents, and the book and the sheet that it holds.
 -- Entries count from 0.
 -- All of it is total: a byte past the file's end counts as 0.
 use mathlib.Core.Bool.{cond}
@@ -88,7 +88,11 @@ firstIn f = andThen (entryOf f 5) (λ e. some (field f (start f e)))
 unfoldable pub balancesIn : List ℕ → Option (List ℕ)
 balancesIn f = andThen (entryOf f 6) (λ e. some (fieldsAt f (start f e) (seatsIn f)))
 
--- kind 1: each seat's class; kind 2: each window's supply; kind 3: caps; kind 5: the first seat; kind 6: balances
+-- kind 7: eight weights, of classes 1 to 8; it may be missing
+unfoldable pub weightsIn : List ℕ → Option (List ℕ)
+weightsIn f = andThen (entryOf f 7) (λ e. some (fieldsAt f (start f e) 8))
+
+-- kind 1: each seat's class; kind 2: each window's supply; kind 3: caps; kind 5: the first seat; kind 6: balances; kind 7: weights
 unfoldable pub bookOf : List ℕ → Book
 bookOf f =
     record {
@@ -97,6 +101,7 @@ bookOf f =
       caps = gridIn f 2;
       first = firstIn f;
       balances = balancesIn f;
+      weights = weightsIn f;
     }
 
 -- kind 4: the sheet, laid out as kind 3; it may be missing

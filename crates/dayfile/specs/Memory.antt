@@ -41,6 +41,7 @@ bookIn m caps =
       caps = sizedGrid (m .seats) (m .windows) caps;
       first = when (m .«has_first») (m .first);
       balances = when (m .«has_balances») (sized (m .seats) (m .balances));
+      weights = when (m .«has_weights») (sized 8 (m .weights));
     }
 
 -- the used cells of a grid that is in memory
@@ -72,8 +73,8 @@ fileIn d = fileWith (d .book) (gridOf (d .caps)) (d .«has_sheet») (gridOf (d .
 abbrev pub held : Grid → Grid
 held g = sizedGrid 32 24 g
 
--- a day in memory holds a book, and a sheet or its absence; where there is none all cells are 0, and so are a first seat that is not named
--- and balances that are not there
+-- a day in memory holds a book, and a sheet or its absence; where there is none all cells are 0, and so are a first seat that is not named,
+-- and balances and weights that are not there
 pub record Holds (b : Book) (s : Option Grid) (d : Day) : Type 0 where
   pub seats-are : d .book .seats ≡ seats b
   pub windows-are : d .book .windows ≡ windows b
@@ -84,12 +85,14 @@ pub record Holds (b : Book) (s : Option Grid) (d : Day) : Type 0 where
   pub first-is : d .book .first ≡ getOr (b .first) 0
   pub has-balances-is : d .book .«has_balances» ≡ isSome (b .balances)
   pub balances-are : d .book .balances ≡ sized 32 (getOr (b .balances) [])
+  pub has-weights-is : d .book .«has_weights» ≡ isSome (b .weights)
+  pub weights-are : d .book .weights ≡ sized 8 (getOr (b .weights) [])
   pub has-sheet-is : d .«has_sheet» ≡ isSome s
   pub sheet-is : gridOf (d .sheet) ≡ held (getOr s [])
 
 -- no seats and no windows: a day that holds it has 0 everywhere
 abbrev pub noBook : Book
-noBook = record { classes = []; supplies = []; caps = []; first = none; balances = none }
+noBook = record { classes = []; supplies = []; caps = []; first = none; balances = none; weights = none }
 
 -- ---- what answers say
 

@@ -9,7 +9,7 @@ use lib.Dec.{leb, ltb, eqb}
 use lib.ListN.{length}
 use Rattle.fairness.specs.Sums.{sum}
 use Rattle.model.specs.Lowest.{lowest, when, orElse, andThen, isSome}
-use Rattle.model.specs.Book.{Book, balancesOf}
+use Rattle.model.specs.Book.{Book, balancesOf, weightsOf}
 use Rattle.dayfile.specs.Layout.{field, count, contentsEnd, kind, start, size, kindAt, startAt, sizeAt, entryOf, ends}
 use Rattle.dayfile.specs.Layout.{seatsIn, windowsIn, bookOf}
 use Rattle.dayfile.specs.File.{fileOf}
@@ -28,7 +28,7 @@ wrongEntry at right f = offset at (lowest (count f) (λ e. not (right f e)))
 
 -- the last kind that is known
 abbrev pub known : ℕ
-known = 6
+known = 7
 
 -- ---- contents
 
@@ -36,7 +36,7 @@ known = 6
 unfoldable pub line1 : List ℕ → Option ℕ
 line1 f = when (ltb (length f) 2) (length f)
 
--- 2: entries not 3 to 6 | 0
+-- 2: entries not 3 to 7 | 0
 unfoldable pub line2 : List ℕ → Option ℕ
 line2 f = when (not (within 3 known (count f))) 0
 
@@ -138,6 +138,10 @@ line18 f = andThen (entryOf f 5) (wrongFields f 1 1 (seatsIn f) false)
 unfoldable pub line19 : List ℕ → Option ℕ
 line19 f = andThen (entryOf f 6) (wrongFields f (seatsIn f) 0 50000 false)
 
+-- 20: weights: length not 16, or a weight that is not 1 to 1,000 or not greater than the one before | that length field, or that value
+unfoldable pub line20 : List ℕ → Option ℕ
+line20 f = andThen (entryOf f 7) (wrongFields f 8 1 1000 true)
+
 -- ---- marker only
 
 -- 13: no sheet | 0
@@ -180,15 +184,17 @@ alike test [] (y ∷ ys) = false
 alike test (x ∷ xs) [] = false
 alike test (x ∷ xs) (y ∷ ys) = test x y && alike test xs ys
 
--- two books have the same numbers in force: classes, supplies, caps, and balances, of which missing ones count as zeros
+-- two books have the same numbers in force: classes, supplies, caps, balances, of which missing ones count as zeros, and all eight weights,
+-- of which missing ones count as paper 01's
 unfoldable pub sameBook : Book → Book → Bool
 sameBook b c =
     alike eqb (b .classes) (c .classes)
     && (alike eqb (b .supplies) (c .supplies)
     && (alike (alike eqb) (b .caps) (c .caps)
-    && alike eqb (balancesOf b) (balancesOf c)))
+    && (alike eqb (balancesOf b) (balancesOf c)
+    && alike eqb (weightsOf b) (weightsOf c))))
 
--- 17: the class, supply or cap bodies of two files differ, or their balances | 0
+-- 17: the class, supply or cap bodies of two files differ, their balances or their weights | 0
 unfoldable pub line17 : List ℕ → List ℕ → Option ℕ
 line17 f g = when (not (sameBook (bookOf f) (bookOf g))) 0
 
@@ -233,7 +239,7 @@ valueLines f = line 10 (line10 f) ∷ line 11 (line11 f) ∷ line 12 (line12 f) 
 
 -- the lines of the kinds that may be missing
 unfoldable pub optionLines : List ℕ → List Line
-optionLines f = line 18 (line18 f) ∷ line 19 (line19 f) ∷ []
+optionLines f = line 18 (line18 f) ∷ line 19 (line19 f) ∷ line 20 (line20 f) ∷ []
 
 unfoldable pub markerLines : List ℕ → List Line
 markerLines f = line 13 (line13 f) ∷ line 14 (line14 f) ∷ line 15 (line15 f) ∷ []

@@ -12,10 +12,10 @@ use sheet::Caps;
 use sheet::Sheet;
 
 // The last kind that is known.
-pub const KNOWN: usize = 6;
+pub const KNOWN: usize = 7;
 
 // The length of the longest file.
-pub const LONGEST_FILE: usize = 3288;
+pub const LONGEST_FILE: usize = 3310;
 
 // Where a line of the table of refusals holds.
 pub enum Found {
@@ -36,7 +36,7 @@ pub enum Written {
 }
 
 // A book in memory, but for its caps. The seat that comes first, counted from 1, or its absence; the balances carried over, or their
-// absence.
+// absence; its own weights of classes 1 to 8, or their absence.
 #[repr(C)]
 pub struct Book {
     pub seats: usize,
@@ -47,6 +47,8 @@ pub struct Book {
     pub first: u16,
     pub has_balances: bool,
     pub balances: [u16; 32],
+    pub has_weights: bool,
+    pub weights: [u16; 8],
 }
 
 // What a day file holds: a book with its caps, and a sheet or its absence. A field cannot be an array of arrays, so the caps are rows too.

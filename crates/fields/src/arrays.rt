@@ -52,7 +52,7 @@ fn read_fields(array: &mut [u16], file: &[u8], at: usize, m: usize)
 }
 
 // n fields from an offset on, to the front of an array of zeros.
-fn fill(array: &mut [u16], file: &[u8], at: usize, n: usize)
+pub fn fill(array: &mut [u16], file: &[u8], at: usize, n: usize)
     requires { ⌜ (at < 10000000) × (n < 32768) ⌝ }
     ensures { λ r. ⌜ ((l : ℕ) → now (array .entry) ≡ replicate l 0 → now (array .exit) ≡ sized l (fieldsAt (now (file .entry)) at n)) ⌝ }
 {

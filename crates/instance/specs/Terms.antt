@@ -4,6 +4,7 @@ use mathlib.Core.Bool.{cond}
 use mathlib.Core.List.{List}
 use Prim.Native.Nat.{ℕ, _≤_, _<_}
 use lib.ListN.{getD, replicate}
+use Rattle.fairness.specs.Classes.{classWeights}
 use Rattle.fairness.specs.Instance.{Instance}
 use Rattle.model.specs.Book.{Grid, cell}
 use Rattle.dayfile.specs.declared.Book as Memory
@@ -26,6 +27,10 @@ instanceIn t caps =
 abbrev pub inForce : Memory.Book → List ℕ
 inForce m = cond (m .«has_balances») (m .balances) (replicate 32 0)
 
+-- the weights in force of classes 1 to 8: those of the book in memory, or paper 01's where there are none
+abbrev pub weightsInForce : Memory.Book → List ℕ
+weightsInForce m = cond (m .«has_weights») (m .weights) classWeights
+
 -- the used numbers in memory are those of an instance; only used entries count
 pub record Told (I : Instance) (t : Terms) (caps : Grid) : Type 0 where
   pub seats-are : I .seats ≡ t .seats
@@ -40,7 +45,7 @@ pub record Told (I : Instance) (t : Terms) (caps : Grid) : Type 0 where
 abbrev pub Shows : Terms → (ℕ → ℕ → ℕ) → Grid → Type 0
 Shows t S grid = (i j : ℕ) → i < t .seats → j < t .windows → S i j ≡ cell grid i j
 
--- the ranges of a book's numbers, with room for other weights than paper 01's and for more than paper 02's balances
+-- the ranges of a book's numbers, with room for more than paper 02's balances
 pub record Ranged (t : Terms) : Type 0 where
   pub seats-most : t .seats ≤ 32
   pub windows-most : t .windows ≤ 24

@@ -3,11 +3,10 @@ use mathlib.Core.Path.{_≡_, refl}
 use mathlib.Core.List.{List, [], _∷_, _++_}
 use mathlib.Core.Option.{none}
 use Rattle.fairness.specs.Sums.{sum}
-use Rattle.fairness.specs.Classes.{weightOf}
 use Rattle.fairness.specs.Leximin.{table}
 use Rattle.fairness.specs.Exchange.{Move, improves, tiesWrongly, improvesAt, tiesAt}
 use Rattle.model.specs.Lowest.{lowest}
-use Rattle.model.specs.Book.{Book, Grid, instanceOf, totals}
+use Rattle.model.specs.Book.{Book, Grid, weightIn, instanceOf, totals}
 use Rattle.model.specs.Search.{member, any, filter, canTake, grow, layer, reached, fewest, donorOf, firstReceiver, search}
 use Rattle.model.specs.Marks.{seatBelow, wastedWindow, markOf, resultOf, moveBytes}
 use Rattle.text.specs.Text.{ascii, digits, widthWithin, widthOf, decimal, fourDigits, openingTime}
@@ -23,6 +22,7 @@ book =
       caps = (1 ∷ 0 ∷ []) ∷ (1 ∷ 2 ∷ []) ∷ (0 ∷ 3 ∷ []) ∷ [];
       first = none;
       balances = none;
+      weights = none;
     }
 
 abbrev sheet : Grid
@@ -43,7 +43,7 @@ pub sample :
     ++ ascii "mark 2\n"
     ++ ascii "move window 1 from 2 to 1\n"
     ++ ascii "move window 2 from 3 to 2\n"
-unfolding sum weightOf table improves tiesWrongly improvesAt tiesAt lowest instanceOf totals
+unfolding sum weightIn table improves tiesWrongly improvesAt tiesAt lowest instanceOf totals
     member any filter canTake grow layer reached fewest donorOf firstReceiver search seatBelow wastedWindow markOf
     digits widthWithin widthOf decimal fourDigits openingTime labelled labelledLast opens headLine windowLine seatLine leftLine
     moveLine lines windowLines seatLines moveLines bookLines resultLines listingText moveBytes listingOf

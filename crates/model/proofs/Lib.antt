@@ -3,6 +3,7 @@ pub mod Lowest
 pub mod Grids
 pub mod Books
 pub mod Places
+pub mod Weights
 pub mod Examples
 -- what the search and the marks mean
 pub mod Sets
@@ -10,7 +11,7 @@ pub mod Layers
 pub mod Meaning
 pub mod Marks
 pub mod Moves
-pub mod Balances
+pub mod Instances
 -- the theorems
 pub mod Agree
 pub mod Theorems

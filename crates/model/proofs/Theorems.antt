@@ -5,32 +5,36 @@ use mathlib.Core.Bool.{true, true≢false}
 use mathlib.Core.Logic.{_⊎_, _↔_}
 use mathlib.Core.List.{List}
 use mathlib.Core.Option.{Option, none, some}
-use Prim.Native.Nat.{ℕ, _+_, _<_}
+use Prim.Native.Nat.{ℕ, _+_, _-_, _≤_, _<_}
 use lib.ListN.{getD, replicate}
 use Rattle.lists.proofs.Arrays.{zeros-at}
-use Rattle.fairness.specs.Classes.{weightOf}
+use Rattle.fairness.specs.Classes.{classWeights, weightOf}
 use Rattle.fairness.specs.Instance.{Proper, Feasible, total}
 use Rattle.fairness.specs.Leximin.{Level, NoHigher, Equal, Higher, table, levels, profile, Highest}
 use Rattle.fairness.specs.Exchange.{Move, playAll, PlaysOut, Settled, improves, tiesWrongly, improvesAt, tiesAt}
 use Rattle.fairness.proofs.Theorems as fairness
 use Rattle.fairness.proofs.Standard as standard
-use Rattle.fairness.proofs.Weights.{weight-bounds}
 use Rattle.model.specs.Book.{Book, Grid, SheetOf, Lawful, cell, seats, windows, withFirst, firstSeat, placeFrom}
-use Rattle.model.specs.Book.{withBalances, balanceOf, instanceOf, totals}
+use Rattle.model.specs.Book.{withBalances, balanceOf, withWeights, weightsOf, weightIn, instanceOf, totals}
 use Rattle.model.specs.Fair.{profileOf, HighestList, StandardSheet}
 use Rattle.model.specs.Search.{Found, PathOn}
 use Rattle.model.specs.Marks.{Mark, wasteful, improvable, tied, settled, Marked, markOf, passes}
 use Rattle.model.proofs.Grids.{table-same, gridOf, gridOf-cell, gridOf-shaped, shaped-same, agree-feasible, agree-profile}
 use Rattle.model.proofs.Agree.{agree-settled, agree-standard}
 use Rattle.model.proofs.Places.{place-apart}
-use Rattle.model.proofs.Balances.{same-mark}
+use Rattle.model.proofs.Weights.{weight-least, weight-as, weight-built-in}
+use Rattle.model.proofs.Instances.{same-mark}
 use Rattle.model.proofs.Marks.{mark-means, waste-of}
 
 module _ (b : Book) where
   -- every book has positive weights, and its seats have places of their own
   pub proper : Proper (instanceOf b)
   unfolding instanceOf
-  proper = record { weights = λ i l. weight-bounds (getD (b .classes) i 0) .0; positions = place-apart (firstSeat b) (seats b) }
+  proper =
+      record {
+        weights = λ i l. weight-least (weightsOf b) (getD (b .classes) i 0);
+        positions = place-apart (firstSeat b) (seats b);
+      }
 
   -- ---- all sheets of functions, and all grids
 
@@ -207,16 +211,16 @@ first-passes b k s shape lawful = (
     there : (passes (markOf (withFirst k b) s) ≡ true) ↔ HighestList (withFirst k b) (profileOf (withFirst k b) s)
     there = passes-highest (withFirst k b) s shape (first-lawful b k s .0 lawful)
 
--- ---- balances carried over
+-- ---- balances carried over, and weights
 
 module _ (b : Book) (s : Grid) where
   -- a seat's balance plus its total
   abbrev heightOf : ℕ → ℕ
   heightOf i = balanceOf b i + total (instanceOf b) (cell s) i
 
-  -- the weight of a seat's class
+  -- the weight in force of a seat's class
   abbrev weightAt : ℕ → ℕ
-  weightAt i = weightOf (getD (b .classes) i 0)
+  weightAt i = weightIn (weightsOf b) (getD (b .classes) i 0)
 
   -- a seat's place in the order of the day
   abbrev placeAt : ℕ → ℕ
@@ -246,11 +250,32 @@ missing-are-zeros b =
       windows = windows b;
       cap = cell (b .caps);
       supply = λ j. getD (b .supplies) j 0;
-      weight = λ i. weightOf (getD (b .classes) i 0);
+      weight = λ i. weightIn (weightsOf b) (getD (b .classes) i 0);
       base = base;
       position = placeFrom (firstSeat b) (seats b);
     }) (fun-ext (λ i. sym (zeros-at (seats b) i)))
 
 -- and every sheet has the same mark
 pub missing-same-mark : (b : Book) (s : Grid) → markOf (withBalances none b) s ≡ markOf (withBalances (some (replicate (seats b) 0)) b) s
-missing-same-mark b s = same-mark b none (some (replicate (seats b) 0)) s (missing-are-zeros b)
+missing-same-mark b s = same-mark (withBalances none b) (withBalances (some (replicate (seats b) 0)) b) (missing-are-zeros b) s
+
+-- All theorems are of any table of weights, and paper 01's is a case of it: a book without weights of its own is the same instance as with
+-- paper 01's, so it has the same lists, settled sheets and standard sheet
+pub built-in-a-case : (b : Book) → instanceOf (withWeights none b) ≡ instanceOf (withWeights (some classWeights) b)
+unfolding instanceOf
+built-in-a-case b = refl
+
+-- every sheet has the same mark
+pub built-in-same-mark : (b : Book) (s : Grid) → markOf (withWeights none b) s ≡ markOf (withWeights (some classWeights) b) s
+built-in-same-mark b s = same-mark (withWeights none b) (withWeights (some classWeights) b) (built-in-a-case b) s
+
+-- and each seat has the weight that paper 01 gives its class
+pub built-in-weight : (b : Book) (i : ℕ) → instanceOf (withWeights none b) .weight i ≡ weightOf (getD (b .classes) i 0)
+unfolding instanceOf
+built-in-weight b i = weight-built-in (getD (b .classes) i 0)
+
+-- with weights of its own, a seat has the one that they give its class
+pub own-weight : (b : Book) (ws : List ℕ) (i : ℕ) → 1 ≤ getD ws (getD (b .classes) i 0 - 1) 1
+    → instanceOf (withWeights (some ws) b) .weight i ≡ getD ws (getD (b .classes) i 0 - 1) 1
+unfolding instanceOf
+own-weight b ws i l = weight-as ws (getD (b .classes) i 0) l

@@ -4,10 +4,10 @@ use mathlib.Core.Path.{_≡_}
 use mathlib.Core.Bool.{Bool, not, cond, _&&_}
 use mathlib.Core.List.{List, []}
 use mathlib.Core.Option.{Option}
-use Prim.Native.Nat.{ℕ, _+_, _<_}
+use Prim.Native.Nat.{ℕ, zero, suc, _+_, _-_, _<_}
 use lib.Dec.{eqb, ltb}
 use lib.ListN.{length, getD}
-use Rattle.fairness.specs.Classes.{weightOf}
+use Rattle.fairness.specs.Classes.{classWeights}
 use Rattle.fairness.specs.Instance.{Instance, Feasible, placed, total}
 use Rattle.fairness.specs.Leximin.{table}
 use Rattle.model.specs.Lowest.{lowest, isSome, getOr}
@@ -26,13 +26,15 @@ pub record Shaped (n m : ℕ) (g : Grid) : Type 0 where
   pub row : (i : ℕ) → i < n → length (getD g i []) ≡ m
 
 -- each seat's class, each window's supply, the most each seat can use in each window; paper 02's seat that comes first today, counted
--- from 1, where one is named; and paper 02's balances carried over, one for each seat, where there are any
+-- from 1, where one is named; paper 02's balances carried over, one for each seat, where there are any; and paper 02's own weights of
+-- classes 1 to 8, where there are any
 pub record Book : Type 0 where
   pub classes : List ℕ
   pub supplies : List ℕ
   pub caps : Grid
   pub first : Option ℕ
   pub balances : Option (List ℕ)
+  pub weights : Option (List ℕ)
 
 abbrev pub seats : Book → ℕ
 seats b = length (b .classes)
@@ -42,11 +44,39 @@ windows b = length (b .supplies)
 
 -- the same book where another seat is named, or none
 abbrev pub withFirst : Option ℕ → Book → Book
-withFirst k b = record { classes = b .classes; supplies = b .supplies; caps = b .caps; first = k; balances = b .balances }
+withFirst k b =
+    record {
+      classes = b .classes;
+      supplies = b .supplies;
+      caps = b .caps;
+      first = k;
+      balances = b .balances;
+      weights = b .weights;
+    }
 
 -- the same book with other balances, or with none
 abbrev pub withBalances : Option (List ℕ) → Book → Book
-withBalances xs b = record { classes = b .classes; supplies = b .supplies; caps = b .caps; first = b .first; balances = xs }
+withBalances xs b =
+    record {
+      classes = b .classes;
+      supplies = b .supplies;
+      caps = b .caps;
+      first = b .first;
+      balances = xs;
+      weights = b .weights;
+    }
+
+-- the same book with other weights, or with none of its own
+abbrev pub withWeights : Option (List ℕ) → Book → Book
+withWeights ws b =
+    record {
+      classes = b .classes;
+      supplies = b .supplies;
+      caps = b .caps;
+      first = b .first;
+      balances = b .balances;
+      weights = ws;
+    }
 
 -- the seat that comes first: without a name it is seat 1
 abbrev pub firstSeat : Book → ℕ
@@ -65,8 +95,21 @@ balanceOf b i = getD (getOr (b .balances) []) i 0
 unfoldable pub balancesOf : Book → List ℕ
 balancesOf b = table (seats b) (balanceOf b)
 
--- heights start from the balances, so a level is balance plus total, divided by weight; the seat rule goes by the order from the first seat
--- on
+-- paper 02's weights in force of classes 1 to 8: the book's own, which take the place of paper 01's table
+abbrev pub weightsOf : Book → List ℕ
+weightsOf b = getOr (b .weights) classWeights
+
+-- a weight of 0, which no file holds, counts as 1
+abbrev pub positive : ℕ → ℕ
+positive zero = 1
+positive (suc x) = suc x
+
+-- a class's weight in such a table; what is no class counts as 1
+unfoldable pub weightIn : List ℕ → ℕ → ℕ
+weightIn weights class = positive (getD weights (class - 1) 1)
+
+-- weights are those in force; heights start from the balances, so a level is balance plus total, divided by weight; the seat rule goes by
+-- the order from the first seat on
 unfoldable pub instanceOf : Book → Instance
 instanceOf b =
     record {
@@ -74,7 +117,7 @@ instanceOf b =
       windows = windows b;
       cap = cell (b .caps);
       supply = λ j. getD (b .supplies) j 0;
-      weight = λ i. weightOf (getD (b .classes) i 0);
+      weight = λ i. weightIn (weightsOf b) (getD (b .classes) i 0);
       base = balanceOf b;
       position = placeFrom (firstSeat b) (seats b);
     }

@@ -1,11 +1,11 @@
 -- Paper 01's starred examples, K1 to K10 and K12: a book, a sheet, its mark, the number of moves of the path that the mark
 -- reports, and the totals. Where paper 01 gives what is planned, the sheet is one with those totals, and settled. Behind them paper 02's
--- order of the seat rule, on books of our own, and its K5 with balances.
+-- order of the seat rule, on books of our own, its K5 with balances, and K5 with weights of its own.
 use mathlib.Core.Path.{_≡_}
 use mathlib.Core.List.{List, [], _∷_}
 use mathlib.Core.Option.{none, some}
 use Prim.Native.Nat.{ℕ}
-use Rattle.model.specs.Book.{Book, Grid, SheetOf, Lawful, withFirst, withBalances, totals}
+use Rattle.model.specs.Book.{Book, Grid, SheetOf, Lawful, withFirst, withBalances, withWeights, totals}
 use Rattle.model.specs.Marks.{markOf, resultOf}
 
 pub record Example : Type 0 where
@@ -24,7 +24,8 @@ pub record Holds (e : Example) : Type 0 where
   pub summed : totals (e .book) (e .sheet) ≡ e .sums
 
 abbrev book : List ℕ → List ℕ → Grid → Book
-book classes supplies caps = record { classes = classes; supplies = supplies; caps = caps; first = none; balances = none }
+book classes supplies caps =
+    record { classes = classes; supplies = supplies; caps = caps; first = none; balances = none; weights = none }
 
 -- a book with the seat that comes first
 abbrev firstIs : ℕ → Book → Book
@@ -33,6 +34,20 @@ firstIs k b = withFirst (some k) b
 -- a book with balances
 abbrev carried : List ℕ → Book → Book
 carried xs b = withBalances (some xs) b
+
+-- a book with weights of its own
+abbrev weighed : List ℕ → Book → Book
+weighed ws b = withWeights (some ws) b
+
+-- weights 1, 3 and so on; the largest that a file can hold; and paper 01's
+abbrev steep : List ℕ
+steep = 1 ∷ 3 ∷ 5 ∷ 7 ∷ 9 ∷ 11 ∷ 13 ∷ 15 ∷ []
+
+abbrev large : List ℕ
+large = 993 ∷ 994 ∷ 995 ∷ 996 ∷ 997 ∷ 998 ∷ 999 ∷ 1000 ∷ []
+
+abbrev same : List ℕ
+same = 1 ∷ 2 ∷ 3 ∷ 5 ∷ 8 ∷ 12 ∷ 20 ∷ 40 ∷ []
 
 abbrev example : Book → Grid → ℕ → ℕ → List ℕ → Example
 example b s mark moves sums = record { book = b; sheet = s; mark = mark; moves = moves; sums = sums }
@@ -118,4 +133,17 @@ examples =
     ∷ example (carried (0 ∷ 2 ∷ []) k3) ((2 ∷ []) ∷ (1 ∷ []) ∷ []) 3 1 (2 ∷ 1 ∷ [])
     -- a seat with a large balance and no credit gives nothing
     ∷ example (carried (0 ∷ 50000 ∷ []) k3) ((3 ∷ []) ∷ (0 ∷ []) ∷ []) 4 0 (3 ∷ 0 ∷ [])
+    -- K5 where class 2 has weight 3: 1 and 3 are level, and the sheet that K5 plans is improvable
+    ∷ example (weighed steep k5) ((1 ∷ []) ∷ (3 ∷ []) ∷ []) 4 0 (1 ∷ 3 ∷ [])
+    ∷ example (weighed steep k5) ((2 ∷ []) ∷ (2 ∷ []) ∷ []) 2 1 (2 ∷ 2 ∷ [])
+    -- with paper 01's weights it is K5
+    ∷ example (weighed same k5) ((2 ∷ []) ∷ (2 ∷ []) ∷ []) 4 0 (2 ∷ 2 ∷ [])
+    -- with weights 993 and 994 the odd credit of K7's book is the smaller seat's, as two weights do not tie
+    ∷ example (weighed large k7) ((0 ∷ []) ∷ (1 ∷ []) ∷ []) 4 0 (0 ∷ 1 ∷ [])
+    ∷ example (weighed large k7) ((1 ∷ []) ∷ (0 ∷ []) ∷ []) 2 1 (1 ∷ 0 ∷ [])
+    -- weights 1 and 3 with balances 0 and 4: 2 and 4 + 2 over 3 are level
+    ∷ example (weighed steep (carried (0 ∷ 4 ∷ []) k5)) ((2 ∷ []) ∷ (2 ∷ []) ∷ []) 4 0 (2 ∷ 2 ∷ [])
+    -- weights of 0, which no file holds, count as 1
+    ∷ example (weighed (0 ∷ 0 ∷ []) k5) ((3 ∷ []) ∷ (1 ∷ []) ∷ []) 2 1 (3 ∷ 1 ∷ [])
+    ∷ example (weighed (0 ∷ 0 ∷ []) k5) ((2 ∷ []) ∷ (2 ∷ []) ∷ []) 4 0 (2 ∷ 2 ∷ [])
     ∷ []

@@ -8,7 +8,7 @@ use native.Mathlib.Omega.{arith}
 use lib.ListN.{length, getD}
 use Rattle.fairness.specs.Leximin.{table}
 use Rattle.lists.proofs.Tables.{table-same}
-use Rattle.model.specs.Book.{Book, Grid, cell, seats, balanceOf, balancesOf}
+use Rattle.model.specs.Book.{Book, Grid, cell, seats, balanceOf, balancesOf, weightsOf}
 use Rattle.model.proofs.Tests.{not-true}
 use Rattle.sheet.specs.declared.Sheet.{Sheet}
 use Rattle.sheet.specs.Sheets.{credit, gridOf}
@@ -18,9 +18,11 @@ use Rattle.dayfile.specs.Memory.{sized, sizedGrid, bookIn}
 use Rattle.dayfile.specs.declared.Book as Memory
 use Rattle.pair.specs.Same.{SameUpTo, SameCells, SameLists}
 use Rattle.dayfile.proofs.Pairs.{SameParts, same-parts, parts-same, same-balance}
+use Rattle.dayfile.proofs.Tables.{sized-at}
 use Rattle.dayfile.proofs.Held.{seats-in, windows-in}
 use Rattle.dayfile.proofs.Used.{class-in, supply-in, cap-in}
-use Rattle.instance.proofs.Books.{balance-in}
+use Rattle.instance.specs.Terms.{weightsInForce}
+use Rattle.instance.proofs.Books.{balance-in, weights-in}
 
 -- the same numbers in both
 abbrev SameNumbers : Memory.Book → Grid → Memory.Book → Grid → Type 0
@@ -55,6 +57,7 @@ module _ (a : Memory.Book) (caps : Grid) (b : Memory.Book) (caps′ : Grid) wher
     supplies = sized-same (a .windows) (b .windows) (a .supplies) (b .supplies) (h .0 .windows) (h .0 .supplies);
     caps = grid-same h;
     balances = balances-same (h .0);
+    weights = weights-in a caps ∙ sized-same 8 8 (weightsInForce a) (weightsInForce b) refl (h .0 .weights) ∙ sym (weights-in b caps′);
   }
 
   same-numbers : SameParts (bookIn a caps) (bookIn b caps′) → SameNumbers a caps b caps′
@@ -68,6 +71,10 @@ module _ (a : Memory.Book) (caps : Grid) (b : Memory.Book) (caps′ : Grid) wher
       balances = λ i l.
           sym (balance-in a caps i l) ∙ same-balance (bookIn a caps) (bookIn b caps′) h i (omega (arith, seats-in a caps))
           ∙ balance-in b caps′ i (omega (arith, n));
+      weights = λ k l.
+          sym (sized-at 8 (weightsInForce a) k l)
+          ∙ ap (λ (xs : List ℕ). getD xs k 0) (sym (weights-in a caps) ∙ h .weights ∙ weights-in b caps′)
+          ∙ sized-at 8 (weightsInForce b) k l;
     },
     λ i li j lj.
         sym (cap-in a caps i j li lj) ∙ ap (λ (g : Grid). cell g i j) (h .caps) ∙ cap-in b caps′ i j (omega (arith, n)) (omega (arith, m)),

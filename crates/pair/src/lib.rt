@@ -15,6 +15,7 @@ ghost use Rattle.pair.specs.Same.{SameUpTo, SameCells, SameLists};
 use dayfile::Book;
 use instance::balances;
 use instance::terms_of;
+use instance::weights;
 use leximin::is_higher;
 use profile::profile;
 use sheet::Sheet;
@@ -57,7 +58,7 @@ fn same_cells(a: Sheet, b: Sheet, seats: usize, windows: usize) -> bool
     true
 }
 
-// Whether two books have the same classes, supplies and balances.
+// Whether two books have the same classes, supplies, balances and weights.
 fn same_lists(a: Book, b: Book) -> bool
     requires { ⌜ (a .seats ≤ 32) × (a .windows ≤ 24) ⌝ }
     ensures { λ r. ⌜ ((r ≡ true) ↔ SameLists a b) ⌝ }
@@ -82,10 +83,15 @@ fn same_lists(a: Book, b: Book) -> bool
     }
     let a_balances = balances(a);
     let b_balances = balances(b);
-    same(&a_balances, &b_balances, seats)
+    if !same(&a_balances, &b_balances, seats) {
+        return false;
+    }
+    let a_weights = weights(a);
+    let b_weights = weights(b);
+    same(&a_weights, &b_weights, 8)
 }
 
-// Whether two books have the same numbers in force: classes, supplies, caps, balances.
+// Whether two books have the same numbers in force: classes, supplies, caps, balances, weights.
 pub fn same_book(a: Book, a_caps: Sheet, b: Book, b_caps: Sheet) -> bool
     requires { ⌜ (a .seats ≤ 32) × (a .windows ≤ 24) ⌝ }
     ensures { λ r. ⌜ r ≡ sameBook (bookIn a (gridOf «a_caps»)) (bookIn b (gridOf «b_caps»)) ⌝ }

@@ -2,7 +2,8 @@
 ghost use mathlib.Core.Path.{_≡_};
 ghost use mathlib.Core.List.{[]};
 ghost use mathlib.Core.Option.{none, some};
-ghost use Prim.Native.Nat.{_<_};
+ghost use Prim.Native.Nat.{ℕ, _<_};
+ghost use lib.ListN.{replicate};
 ghost use Rattle.model.specs.Lowest.{getOr, isSome, andThen};
 ghost use Rattle.sheet.specs.Sheets.{gridOf};
 ghost use Rattle.dayfile.specs.Layout.{field, fieldsAt, start, seatsIn, windowsIn, gridIn, bookOf, sheetOf};
@@ -12,6 +13,7 @@ use dayfile::Day;
 use dayfile::Found;
 use fields::arrays::array24;
 use fields::arrays::array32;
+use fields::arrays::fill;
 use fields::arrays::grid;
 use fields::arrays::no_grid;
 use fields::entry_of;
@@ -43,16 +45,15 @@ fn field_of(file: &[u8], entry: Found) -> u16
     0
 }
 
-// The n fields that are the body of an entry; all numbers are 0 where there is none.
-fn list_of(file: &[u8], entry: Found, n: usize) -> [u16; 32]
+// The n fields that are the body of an entry, to the front of an array of zeros; all stay 0 where there is none.
+fn list_of(array: &mut [u16], file: &[u8], entry: Found, n: usize)
     requires { ⌜ Under 65536 (found entry) × (n < 32768) ⌝ }
-    ensures { λ r. ⌜ r ≡ sized 32 (getOr (andThen (found entry)
-        (λ e. some (fieldsAt (now (file .entry)) (start (now (file .entry)) e) n))) []) ⌝ }
+    ensures { λ r. ⌜ ((l : ℕ) → now (array .entry) ≡ replicate l 0 → now (array .exit) ≡ sized l (getOr (andThen (found entry)
+        (λ e. some (fieldsAt (now (file .entry)) (start (now (file .entry)) e) n))) [])) ⌝ }
 {
     if let Found::At(e) = entry {
-        return array32(file, start(file, e), n);
+        fill(array, file, start(file, e), n);
     }
-    [0u16; 32]
 }
 
 // The book, but for its caps.
@@ -65,6 +66,8 @@ fn book_of(file: &[u8]) -> Book
     ensures first { λ r. ⌜ r .first ≡ getOr (bookOf (now (file .entry)) .first) 0 ⌝ }
     ensures has_balances { λ r. ⌜ r .«has_balances» ≡ isSome (bookOf (now (file .entry)) .balances) ⌝ }
     ensures balances { λ r. ⌜ r .balances ≡ sized 32 (getOr (bookOf (now (file .entry)) .balances) []) ⌝ }
+    ensures has_weights { λ r. ⌜ r .«has_weights» ≡ isSome (bookOf (now (file .entry)) .weights) ⌝ }
+    ensures weights { λ r. ⌜ r .weights ≡ sized 8 (getOr (bookOf (now (file .entry)) .weights) []) ⌝ }
 {
     let seats = seats(file);
     let windows = windows(file);
@@ -75,7 +78,12 @@ fn book_of(file: &[u8]) -> Book
     let first = field_of(file, entry);
     let list = entry_of(file, 6);
     let has_balances = is_there(list);
-    let balances = list_of(file, list, seats);
+    let mut balances = [0u16; 32];
+    list_of(&mut balances, file, list, seats);
+    let table = entry_of(file, 7);
+    let has_weights = is_there(table);
+    let mut weights = [0u16; 8];
+    list_of(&mut weights, file, table, 8);
     Book {
         seats,
         windows,
@@ -85,6 +93,8 @@ fn book_of(file: &[u8]) -> Book
         first,
         has_balances,
         balances,
+        has_weights,
+        weights,
     }
 }
 
@@ -137,6 +147,8 @@ pub fn no_day() -> Day
         first: 0,
         has_balances: false,
         balances: [0u16; 32],
+        has_weights: false,
+        weights: [0u16; 8],
     };
     Day {
         book,

@@ -24,7 +24,7 @@ fn too_short(file: &[u8]) -> Found
     }
 }
 
-// Line 2: entries not 3 to 6.
+// Line 2: entries not 3 to 7.
 fn wrong_count(file: &[u8]) -> Found
     ensures { λ r. ⌜ found r ≡ line2 (now (file .entry)) ⌝ }
 {

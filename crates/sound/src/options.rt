@@ -37,7 +37,7 @@ fn wrong_body(file: &[u8], kind: usize, n: usize, low: usize, high: usize, risin
     Found::Nothing
 }
 
-// Lines 18 and 19: the first seat, and the balances.
+// Lines 18 to 20: the first seat, the balances, and the weights, which rise.
 pub fn check_options(file: &[u8]) -> Check
     ensures { λ r. ⌜ refused r ≡ firstOf (optionLines (now (file .entry))) ⌝ }
 {
@@ -46,6 +46,6 @@ pub fn check_options(file: &[u8]) -> Check
         18,
         wrong_body(file, 5, 1, 1, n, false),
         wrong_body(file, 6, n, 0, 50000, false),
-        Found::Nothing,
+        wrong_body(file, 7, 8, 1, 1000, true),
     )
 }

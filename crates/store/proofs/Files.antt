@@ -140,6 +140,7 @@ slots-fit b t e h =
     let s = size-most t (b .seats * b .windows) in
     let k = size-most (b .«has_first») 1 in
     let l = size-most (b .«has_balances») (b .seats) in
+    let w = size-most (b .«has_weights») 8 in
     let small : sizes (slotsOf b t) < 30000 = omega (arith, h) in (ap length e, subst (λ (xs : List Slot). sizes xs < 30000) (sym e) small)
 
 -- ---- a book with its caps, with or without a sheet
@@ -170,6 +171,7 @@ module _ (b : Memory.Book) (caps : Grid) (t : Bool) (sheet : Grid) where
       ∷ record { at = slot 4 t (n * m); body = cells sheet; long = sized-flat-length n m sheet }
       ∷ record { at = slot 5 (b .«has_first») 1; body = b .first ∷ []; long = refl }
       ∷ record { at = slot 6 (b .«has_balances») n; body = sized n (b .balances); long = sized-length n (b .balances) }
+      ∷ record { at = slot 7 (b .«has_weights») 8; body = sized 8 (b .weights); long = sized-length 8 (b .weights) }
       ∷ []
 
   slots-are : slots all ≡ slotsOf b t
@@ -184,9 +186,9 @@ module _ (b : Memory.Book) (caps : Grid) (t : Bool) (sheet : Grid) where
   first-one true = refl
   first-one false = refl
 
-  balances-each : (u : Bool) → when u (sized n (b .balances)) ≡ ifThere u (sized n (b .balances))
-  balances-each true = refl
-  balances-each false = refl
+  list-there : (u : Bool) (xs : List ℕ) → when u xs ≡ ifThere u xs
+  list-there true xs = refl
+  list-there false xs = refl
 
   parts-are : partsWith b caps t sheet ≡ parts all
   unfolding partsWith partsOf optParts optPart bookIn
@@ -196,12 +198,14 @@ module _ (b : Memory.Book) (caps : Grid) (t : Bool) (sheet : Grid) where
       ∷ record { sort = 2; body = sized m (b .supplies) }
       ∷ record { sort = 3; body = cells caps }
       ∷ ps in
-      let there : Option (List ℕ) = when (b .«has_balances») (sized n (b .balances)) in
-      ap₂ (λ (o k : Option (List ℕ)). front (optPart 4 o ++ (optPart 5 k ++ (optPart 6 there ++ []))))
-      (sheet-flat t) (first-one (b .«has_first»))
-      ∙ ap (λ (k : Option (List ℕ)).
-      front (optPart 4 (ifThere t (cells sheet)) ++ (optPart 5 (ifThere (b .«has_first») (b .first ∷ [])) ++ (optPart 6 k ++ []))))
-      (balances-each (b .«has_balances»))
+      let balances : List ℕ = sized n (b .balances) in
+      let weights : List ℕ = sized 8 (b .weights) in
+      let last : List Part = optPart 6 (when (b .«has_balances») balances) ++ (optPart 7 (when (b .«has_weights») weights) ++ []) in
+      ap₂ (λ (o k : Option (List ℕ)). front (optPart 4 o ++ (optPart 5 k ++ last))) (sheet-flat t) (first-one (b .«has_first»))
+      ∙ ap₂ (λ (j k : Option (List ℕ)).
+      front (optPart 4 (ifThere t (cells sheet)) ++ (optPart 5 (ifThere (b .«has_first») (b .first ∷ []))
+      ++ (optPart 6 j ++ (optPart 7 k ++ [])))))
+      (list-there (b .«has_balances») balances) (list-there (b .«has_weights») weights)
 
   pub parts-count : length (partsWith b caps t sheet) ≡ entries (slotsOf b t)
   parts-count = ap length parts-are ∙ count-is all ∙ ap entries slots-are

@@ -76,6 +76,7 @@ slotsOf b hasSheet =
     ∷ slot 4 hasSheet (b .seats * b .windows)
     ∷ slot 5 (b .«has_first») 1
     ∷ slot 6 (b .«has_balances») (b .seats)
+    ∷ slot 7 (b .«has_weights») 8
     ∷ []
 
 abbrev pub slotsIn : Day → List Slot
@@ -85,7 +86,12 @@ slotsIn d = slotsOf (d .book) (d .«has_sheet»)
 abbrev pub listFields : Memory.Book → List ℕ
 listFields b = flat (sized (b .seats) (b .classes) ∷ sized (b .windows) (b .supplies) ∷ [])
 
--- the bodies that may be missing and are no grids, where they are there: the first seat and the balances
+-- the bodies that may be missing and are no grids, where they are there: the first seat, the balances and the weights
 abbrev pub optionFields : Memory.Book → List ℕ
 optionFields b =
-    flat (fieldsIf (b .«has_first») (b .first ∷ []) ∷ fieldsIf (b .«has_balances») (sized (b .seats) (b .balances)) ∷ [])
+    flat (
+    fieldsIf (b .«has_first») (b .first ∷ [])
+    ∷ fieldsIf (b .«has_balances») (sized (b .seats) (b .balances))
+    ∷ fieldsIf (b .«has_weights») (sized 8 (b .weights))
+    ∷ []
+    )

@@ -16,13 +16,15 @@ pub fn put_lists(buf: &mut [u8], at: usize, book: Book) -> usize
     put_all(buf, p, &supplies, book.windows)
 }
 
-// The first seat and the balances; what is missing has no fields.
+// The first seat, the balances and the weights; what is missing has no fields.
 pub fn put_options(buf: &mut [u8], at: usize, book: Book) -> usize
     requires { ⌜ Room (now buf) at (optionFields book) ⌝ }
     ensures { λ r. ⌜ Put (now (buf .entry)) at (optionFields book) r (now (buf .exit)) ⌝ }
 {
     let first = [book.first];
     let balances = book.balances;
+    let weights = book.weights;
     let p = put_all(buf, at, &first, size_if(book.has_first, 1));
-    put_all(buf, p, &balances, size_if(book.has_balances, book.seats))
+    let p = put_all(buf, p, &balances, size_if(book.has_balances, book.seats));
+    put_all(buf, p, &weights, size_if(book.has_weights, 8))
 }

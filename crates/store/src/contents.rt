@@ -62,6 +62,11 @@ pub fn slots_of(book: Book, has_sheet: bool) -> [Slot; KNOWN]
             there: book.has_balances,
             fields: book.seats,
         },
+        Slot {
+            kind: 7,
+            there: book.has_weights,
+            fields: 8,
+        },
     ]
 }
 

@@ -17,7 +17,7 @@ use Rattle.sheet.specs.declared.Sheet.{Sheet}
 use Rattle.dayfile.specs.Layout.{field, entriesIn, contentsEnd, start, size, sizeAt, seatsIn, windowsIn, entryOf}
 use Rattle.dayfile.specs.File.{Part, assemble, flat, flatIf, oneIf, partsOf, fileOf}
 use Rattle.dayfile.specs.Table.{Line, Refusal, line, refuse, firstOf, within, offset, sizeRight, numberRight, wrongField, outside}
-use Rattle.dayfile.specs.Table.{wrongFields, line7, line8, line10, line11, line12, line16, line18, line19}
+use Rattle.dayfile.specs.Table.{wrongFields, line7, line8, line10, line11, line12, line16, line18, line19, line20}
 use Rattle.dayfile.specs.Table.{valueLines, optionLines, bufferLines, writeLines}
 use Rattle.dayfile.specs.Memory.{sized, sizedGrid, bookIn, sheetIn, fileWith, fileIn, front, Writes}
 use Rattle.dayfile.specs.declared.Book as Memory
@@ -33,7 +33,7 @@ use Rattle.dayfile.proofs.Grids.{sized-flat-length}
 use Rattle.dayfile.proofs.Container.{nth, before, start-is, size-is, body-is}
 use Rattle.dayfile.proofs.Sound.{kept}
 use Rattle.dayfile.proofs.Optional.{lengthIf, IfThere, BodyAt}
-use Rattle.dayfile.proofs.WrittenReads.{written-seats, first-at, balances-at}
+use Rattle.dayfile.proofs.WrittenReads.{written-seats, first-at, balances-at, weights-at}
 use Rattle.dayfile.proofs.Held.{seats-in}
 use Rattle.store.specs.Stores.{sizeIf, fieldsIf, entries, slotsOf, slotsIn}
 use Rattle.store.proofs.Storing.{list-if}
@@ -301,10 +301,10 @@ module _ (m : Memory.Book) (caps : Grid) (t : Bool) (sheet : Grid) where
       ∙ ap (λ (n : ℕ). andThen (entryOf f 5) (wrongFields f 1 1 n false))
       (sym (written-seats (bookIn m caps) (sheetIn m t sheet) ∙ seats-in m caps))
 
-  -- the balances are one number for each seat, behind the first seat
-  each-long : (u : Bool) → IfThere (λ xs. length xs ≡ m .seats) (when u (sized (m .seats) (m .balances)))
-  each-long true = sized-length (m .seats) (m .balances)
-  each-long false = tt
+  -- the balances are one number for each seat, behind the first seat, and the weights are eight, behind the balances
+  list-long : (n : ℕ) (xs : List ℕ) (u : Bool) → IfThere (λ ys. length ys ≡ n) (when u (sized n xs))
+  list-long n xs true = sized-length n xs
+  list-long n xs false = tt
 
   one-size : (u : Bool) → lengthIf (oneIf (when u (m .first))) ≡ sizeIf u 1
   one-size true = refl
@@ -323,9 +323,30 @@ module _ (m : Memory.Book) (caps : Grid) (t : Bool) (sheet : Grid) where
       let l = one-size (m .«has_first») in
       if-there (m .«has_balances») (m .seats) (m .balances) p 0 50000 false
       ∙ sym (body-line (partsOf (bookIn m caps) (sheetIn m t sheet)) _ (m .seats) 0 50000 false p (omega arith) (entryOf f 6) _
-      (balances-at (bookIn m caps) (sheetIn m t sheet)) (each-long (m .«has_balances»)))
+      (balances-at (bookIn m caps) (sheetIn m t sheet)) (list-long (m .seats) (m .balances) (m .«has_balances»)))
       ∙ ap (λ (n : ℕ). andThen (entryOf f 6) (wrongFields f n 0 50000 false))
       (sym (written-seats (bookIn m caps) (sheetIn m t sheet) ∙ seats-in m caps))
+
+  each-size : (u : Bool) → lengthIf (when u (sized (m .seats) (m .balances))) ≡ sizeIf u (m .seats)
+  each-size true = sized-length (m .seats) (m .balances)
+  each-size false = refl
+
+  -- line 20 by what the code has at hand
+  pub weights-told : {at k one each : ℕ} → at ≡ contentsEnd (entries (slotsOf m t))
+      → k ≡ m .seats + m .windows + m .seats * m .windows + sizeIf t (m .seats * m .windows) → one ≡ sizeIf (m .«has_first») 1
+      → each ≡ sizeIf (m .«has_balances») (m .seats)
+      → wrongIn (sized (sizeIf (m .«has_weights») 8) (m .weights)) (at + 2 * k + 2 * one + 2 * each) 1 1000 true
+      ≡ line20 (fileWith m caps t sheet)
+  unfolding fileWith fileOf bookIn line20
+  weights-told {at} {k} {one} {each} e q r s =
+      let p : ℕ = at + 2 * k + 2 * one + 2 * each in
+      let b = first-starts e q in
+      let l = one-size (m .«has_first») in
+      let i = each-size (m .«has_balances») in
+      if-there (m .«has_weights») 8 (m .weights) p 1 1000 true
+      ∙ sym (body-line (partsOf (bookIn m caps) (sheetIn m t sheet)) _ 8 1 1000 true p (omega arith)
+      (entryOf (fileWith m caps t sheet) 7) _ (weights-at (bookIn m caps) (sheetIn m t sheet))
+      (list-long 8 (m .weights) (m .«has_weights»)))
 
 -- ---- what the writer answers, by where its refusal comes from
 

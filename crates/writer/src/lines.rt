@@ -118,14 +118,16 @@ fn check_options(book: Book, has_sheet: bool, at: usize) -> Check
 {
     let first = [book.first];
     let balances = book.balances;
+    let weights = book.weights;
     let one = size_if(book.has_first, 1);
     let each = size_if(book.has_balances, book.seats);
+    let eight = size_if(book.has_weights, 8);
     let p = at + 2 * ahead_of_first(book, has_sheet);
     first_of(
         18,
         outside_in(&first, one, p, 1, book.seats),
         outside_in(&balances, each, p + 2 * one, 0, 50000),
-        Found::Nothing,
+        wrong_in(&weights, eight, p + 2 * one + 2 * each, 1, 1000, true),
     )
 }
 

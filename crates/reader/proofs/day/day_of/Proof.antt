@@ -30,7 +30,9 @@ returns c =
       has-first-is = b .book-of .ensures .1 .1 .1 .1 .0;
       first-is = b .book-of .ensures .1 .1 .1 .1 .1 .0;
       has-balances-is = b .book-of .ensures .1 .1 .1 .1 .1 .1 .0;
-      balances-are = b .book-of .ensures .1 .1 .1 .1 .1 .1 .1;
+      balances-are = b .book-of .ensures .1 .1 .1 .1 .1 .1 .1 .0;
+      has-weights-is = b .book-of .ensures .1 .1 .1 .1 .1 .1 .1 .1 .0;
+      weights-are = b .book-of .ensures .1 .1 .1 .1 .1 .1 .1 .1 .1;
       has-sheet-is = t .is-there .ensures ∙ ap isSome k ∙ there-as (gridIn f) (entryOf f 4);
       sheet-is = c .sheet-of .ensures ∙ ap (λ (o : Option ℕ). held (getOr (andThen o (λ e. some (gridIn f e))) [])) k;
     }

@@ -18,6 +18,8 @@ returns c =
       first-is = refl;
       has-balances-is = refl;
       balances-are = refl;
+      has-weights-is = refl;
+      weights-are = refl;
       has-sheet-is = refl;
       sheet-is = c .no-grid2 .ensures;
     }

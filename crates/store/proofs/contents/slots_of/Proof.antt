@@ -14,7 +14,8 @@ returns c =
     let t = c .before .args .has-sheet in
     let one = slot 5 (b .«has_first») 1 in
     let each = slot 6 (b .«has_balances») (b .seats) in
-    ap (λ (g : ℕ). slot 1 true (b .seats) ∷ slot 2 true (b .windows) ∷ slot 3 true g ∷ slot 4 t g ∷ one ∷ each ∷ [])
+    let eight = slot 7 (b .«has_weights») 8 in
+    ap (λ (g : ℕ). slot 1 true (b .seats) ∷ slot 2 true (b .windows) ∷ slot 3 true g ∷ slot 4 t g ∷ one ∷ each ∷ eight ∷ [])
     (c .cells .ensures)
 
 pub slots-of-spec : {M : Type 1} → statement M
