@@ -3,23 +3,26 @@
 use mathlib.Core.List.{List}
 use mathlib.Core.Logic.{_↔_}
 use mathlib.Core.Option.{Option, none, some}
-use mathlib.Core.Path.{_≡_, sym, _∙_, ap, ap₂, subst}
+use mathlib.Core.Bool.{true}
+use mathlib.Core.Path.{_≡_, refl, sym, _∙_, ap, ap₂, subst}
 use Prim.Native.Nat.{ℕ, _≤_}
 use native.Mathlib.Omega.{arith}
-use lib.ListN.{length}
-use Rattle.model.specs.Book.{Book, Grid}
+use lib.ListN.{length, getD}
+use Rattle.fairness.specs.Classes.{classWeights}
+use Rattle.model.specs.Lowest.{lowest, getOr}
+use Rattle.model.specs.Book.{Book, Grid, weightsOf}
 use Rattle.sheet.specs.Sheets.{gridOf}
-use Rattle.dayfile.specs.Bounds.{Fit, SheetFit, TwoByte, longestFile}
+use Rattle.dayfile.specs.Bounds.{Fit, WeightsFit, SheetFit, TwoByte, longestFile}
 use Rattle.dayfile.specs.Layout.{Bytes, bookOf, sheetOf}
 use Rattle.dayfile.specs.File.{fileOf}
-use Rattle.dayfile.specs.Table.{Refusal, firstOf, readLines, writeLines}
+use Rattle.dayfile.specs.Table.{Refusal, firstOf, numberRight, readLines, writeLines}
 use Rattle.dayfile.specs.Outcome.{turnedAway, answer, unless, readFile, NoneHolds, FirstHolds}
 use Rattle.dayfile.specs.Memory.{Holds, fileWith, fileIn, dayBook, daySheet}
 use Rattle.dayfile.specs.declared.Day.{Day}
 use Rattle.dayfile.proofs.Answers.{away, answered}
 use Rattle.dayfile.proofs.Lines.{none-holds, none-first-of, first-holds, holds-first}
-use Rattle.dayfile.proofs.Sound.{sound}
-use Rattle.dayfile.proofs.WrittenReads.{written-free, written-book, written-sheet}
+use Rattle.dayfile.proofs.Sound.{all-right, sound}
+use Rattle.dayfile.proofs.WrittenReads.{list-weights, written-free, written-book, written-sheet}
 use Rattle.dayfile.proofs.ReadWrites.{written-again}
 use Rattle.dayfile.proofs.Accepted.{fits, sheet-fits, sheet-two-byte, taken-fits}
 use Rattle.dayfile.proofs.Lengths.{file-short, file-bytes}
@@ -53,6 +56,20 @@ accepted-fits f b s e =
     let g = answered (firstOf (readLines f)) (bookOf f, sheetOf f) (b, s) e in
     subst (λ (p : Book × Option Grid). Fit (p .0) × SheetFit (p .0) (p .1) × (Bytes f → TwoByte (p .0) (p .1))) (g .1)
     (fits f (sound f (g .0)), sheet-fits f, sheet-two-byte f)
+
+-- paper 01's table is one that a kind 7 body may hold: what is shown over every such table is shown over it
+pub built-in-fits : WeightsFit (some classWeights)
+unfolding lowest
+built-in-fits =
+    list-weights (some classWeights) (refl, all-right (λ i. i) (numberRight 1 1000 true (λ k. getD classWeights k 0)) 8 refl)
+
+-- so in every book that fits the weights in force, its own or paper 01's, are eight, 1 to 1,000, each greater than the one before
+pub in-force-fits : (b : Book) → Fit b → WeightsFit (some (weightsOf b))
+in-force-fits b fit = go (b .weights) (fit .weights-fit)
+  where
+    go : (o : Option (List ℕ)) → WeightsFit o → WeightsFit (some (getOr o classWeights))
+    go none h = built-in-fits
+    go (some ws) h = h
 
 -- a book that fits, with or without a sheet, written and read, is the same, and so is the sheet
 pub written-reads-back : (b : Book) (s : Option Grid) → Fit b → SheetFit b s → readFile (fileOf b s) ≡ answer (b, s)

@@ -3,23 +3,24 @@ use mathlib.Core.Path.{_≡_, refl, ap, ap₂, sym, _∙_}
 use mathlib.Core.Bool.{Bool, true, false, cond}
 use mathlib.Core.List.{List, []}
 use mathlib.Core.Option.{Option, none, some}
-use Prim.Native.Nat.{ℕ, suc, _+_, _-_, _≤_, _<_}
+use Prim.Native.Nat.{ℕ, _-_, _≤_, _<_}
 use native.Mathlib.Omega.{arith}
-use lib.ListN.{length, getD, replicate}
+use lib.ListN.{getD, replicate}
 use Rattle.lists.proofs.Arrays.{Filled, filled-at, zeros-at}
-use Rattle.fairness.specs.Classes.{classWeights, weightOf}
+use Rattle.fairness.specs.Classes.{classWeights}
 use Rattle.fairness.specs.Leximin.{table}
-use Rattle.fairness.proofs.Weights.{weight-bounds, getD-inside}
+use Rattle.fairness.proofs.Weights.{getD-inside}
 use Rattle.model.specs.Lowest.{when, getOr}
 use Rattle.model.specs.Book.{Grid, seats, windows, placeFrom, balanceOf, weightsOf, weightIn, instanceOf}
 use Rattle.model.proofs.Places.{place-apart}
 use Rattle.model.proofs.Weights.{weight-as}
-use Rattle.dayfile.specs.Bounds.{Fit, BalancesFit, WeightsFit}
+use Rattle.dayfile.specs.Bounds.{Fit, BalancesFit}
 use Rattle.dayfile.specs.Memory.{sized, bookIn}
 use Rattle.dayfile.specs.declared.Book as Memory
 use Rattle.dayfile.proofs.Tables.{sized-length, sized-at}
 use Rattle.dayfile.proofs.Used.{class-in, supply-in, cap-in}
 use Rattle.dayfile.proofs.Held.{seats-in, windows-in}
+use Rattle.dayfile.proofs.Theorems.{in-force-fits}
 use Rattle.instance.specs.declared.Terms.{Terms}
 use Rattle.instance.specs.Terms.{inForce, weightsInForce, Told, Ranged}
 
@@ -77,23 +78,13 @@ module _ (m : Memory.Book) (caps : Grid) (fit : Fit (bookIn m caps)) where
       go none h k = omega arith
       go (some xs) h k = h .1 i k
 
-  pub weight-ranged : (k : ℕ) → k < 8 → (1 ≤ getD (weightsInForce m) k 0) × (getD (weightsInForce m) k 0 ≤ 1000)
-  unfolding weightOf
+  weight-ranged : (k : ℕ) → k < 8 → (1 ≤ getD (weightsInForce m) k 0) × (getD (weightsInForce m) k 0 ≤ 1000)
   weight-ranged k l =
-      let e = weight-in m caps k l in
-      let r = go (bookIn m caps .weights) (fit .weights-fit) in (omega (arith, e, r .0), omega (arith, e, r .1))
-    where
-      go : (o : Option (List ℕ)) → WeightsFit o → (1 ≤ getD (getOr o classWeights) k 1) × (getD (getOr o classWeights) k 1 ≤ 1000)
-      go none h =
-          let same : weightOf (k + 1) ≡ getD classWeights k 1 =
-          ap (λ (i : ℕ). getD classWeights i 1) {x = k + 1 - 1} {y = k} (omega arith) in
-          let b = weight-bounds (k + 1) in (omega (arith, same, b .0), omega (arith, same, b .1))
-      go (some ws) h =
-          let inside = getD-inside ws 1 0 k (omega (arith, h .0)) in
-          let b = h .1 k l in (omega (arith, inside, b .0), omega (arith, inside, b .1))
+      let e = ap (λ (ws : List ℕ). getD ws k 0) (weights-in m caps) ∙ sized-at 8 (weightsInForce m) k l in
+      let r = in-force-fits (bookIn m caps) fit .1 k l in (omega (arith, e, r .0), omega (arith, e, r .1))
 
   -- a seat's weight is the one in force of its class
-  pub seat-weight : (other : Grid) (i : ℕ) → i < m .seats
+  seat-weight : (other : Grid) (i : ℕ) → i < m .seats
       → weightIn (weightsOf (bookIn m other)) (getD (bookIn m other .classes) i 0) ≡ getD (weightsInForce m) (getD (m .classes) i 0 - 1) 0
   seat-weight other i l =
       let class : ℕ = getD (m .classes) i 0 in

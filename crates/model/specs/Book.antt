@@ -45,38 +45,17 @@ windows b = length (b .supplies)
 -- the same book where another seat is named, or none
 abbrev pub withFirst : Option ℕ → Book → Book
 withFirst k b =
-    record {
-      classes = b .classes;
-      supplies = b .supplies;
-      caps = b .caps;
-      first = k;
-      balances = b .balances;
-      weights = b .weights;
-    }
+    record { classes = b .classes; supplies = b .supplies; caps = b .caps; first = k; balances = b .balances; weights = b .weights }
 
 -- the same book with other balances, or with none
 abbrev pub withBalances : Option (List ℕ) → Book → Book
 withBalances xs b =
-    record {
-      classes = b .classes;
-      supplies = b .supplies;
-      caps = b .caps;
-      first = b .first;
-      balances = xs;
-      weights = b .weights;
-    }
+    record { classes = b .classes; supplies = b .supplies; caps = b .caps; first = b .first; balances = xs; weights = b .weights }
 
 -- the same book with other weights, or with none of its own
 abbrev pub withWeights : Option (List ℕ) → Book → Book
 withWeights ws b =
-    record {
-      classes = b .classes;
-      supplies = b .supplies;
-      caps = b .caps;
-      first = b .first;
-      balances = b .balances;
-      weights = ws;
-    }
+    record { classes = b .classes; supplies = b .supplies; caps = b .caps; first = b .first; balances = b .balances; weights = ws }
 
 -- the seat that comes first: without a name it is seat 1
 abbrev pub firstSeat : Book → ℕ
@@ -95,7 +74,7 @@ balanceOf b i = getD (getOr (b .balances) []) i 0
 unfoldable pub balancesOf : Book → List ℕ
 balancesOf b = table (seats b) (balanceOf b)
 
--- paper 02's weights in force of classes 1 to 8: the book's own, which take the place of paper 01's table
+-- paper 02's weights in force of classes 1 to 8: the book's own, if it has any, which take the place of paper 01's table
 abbrev pub weightsOf : Book → List ℕ
 weightsOf b = getOr (b .weights) classWeights
 

@@ -6,7 +6,7 @@ ghost use Rattle.listing.specs.Calls.{Lists};
 ghost use Rattle.output.specs.Output.{PrintsPlan};
 use dayfile::Written;
 
-// A program's output buffer: the longest listing has 3,453 bytes, and the longest file 3,288.
+// A program's output buffer: the longest listing has 3,453 bytes, and the longest file 3,310.
 pub const ROOM: usize = 4096;
 
 // What `mark` prints of a file, at the front of the buffer: its listing, or the line of its refusal; and how long that is.
