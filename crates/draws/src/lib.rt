@@ -71,8 +71,8 @@ fn draw_table(state: &mut u32, low: u16, more: u16) -> [u16; 8]
     weights
 }
 
-// A book's own weights: the lowest and the highest that there can be, paper 01's, any, or any that rise by little, so that they and the
-// credits of a sheet decide together. Where there are none, the numbers are 0.
+// A book's own weights: the lowest and the highest that there can be, paper 01's, any; or such that they and the credits of a sheet decide
+// together: low ones that rise by little, and others that are nearly equal. Where there are none, the numbers are 0.
 fn draw_weights(state: &mut u32, there: bool) -> [u16; 8] {
     if !there {
         return [0u16; 8];
@@ -83,7 +83,11 @@ fn draw_weights(state: &mut u32, there: bool) -> [u16; 8] {
         1 => draw_table(state, 992, 0),
         2 => BUILT_IN,
         3 => draw_table(state, 0, 124),
-        _ => draw_table(state, 0, 4),
+        4 | 5 => draw_table(state, 0, 4),
+        _ => {
+            let low = up_to(state, 960);
+            draw_table(state, low, 4)
+        }
     }
 }
 

@@ -25,5 +25,6 @@ pub fn judge(state: &mut u32, tally: Tally) -> Tally {
     let book = day.book;
     let end = plan_day(day, &mut out);
     let seen = count_if(tally, book.has_balances, 0, 1);
+    let seen = count_if(seen, book.has_weights, 0, 2);
     count(seen, 0, 0, rightly_planned(front(&out, end)))
 }

@@ -44,7 +44,7 @@ fn main() {
         40000,
         &mut state,
         b"small books, by number: sheets with this mark, with so many moves, books planned (1: with one settled sheet, 2: with several,
-  3: with balances, 4: with balances that change the plan)\n",
+  3: with balances, 4: with balances that change the plan, 5: with own weights, 6: with own weights that change the plan)\n",
     );
     run(
         Kind::Damaged,
@@ -56,13 +56,14 @@ fn main() {
         Kind::Full,
         300,
         &mut state,
-        b"full-size books: planned and marked (0: all, 1: with balances)\n",
+        b"full-size books: planned and marked (0: all, 1: with balances, 2: with own weights)\n",
     );
     run(
         Kind::Pair,
         20000,
         &mut state,
         b"pairs of hand-ins, by line: neither's (1: different files with equal lists, 2: one book, and balances in one file only,
-  3: two books by their balances alone), the first's, the second's (0: chosen)\n",
+  3: two books by their balances alone, 4: one book, and own weights in one file only, 5: two books by their weights alone,
+  6: by weights of classes alone that no seat has), the first's, the second's (0: chosen)\n",
     );
 }

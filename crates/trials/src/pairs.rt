@@ -1,4 +1,5 @@
 // Two hand-ins of small books: which is the better one, held against the marker's refusals, the files' bytes and the oracle's lists.
+ghost use Prim.Native.Nat.{_<_};
 use crate::calls::mark;
 use crate::calls::mark_of;
 use crate::tally::Tally;
@@ -7,17 +8,21 @@ use crate::tally::count_if;
 use better::body_span;
 use better::choose;
 use choice::BetterResult;
+use draws::SMALL_ROOM;
 use draws::damage::draw_hand_in;
 use draws::put_small;
 use draws::small::draw_other;
 use draws::small::draw_small;
 use lawful::MOVES_ROOM;
+use oracle::BUILT_IN;
+use oracle::Small;
 use oracle::memory::cells_of;
 use oracle::memory::small_of;
 use oracle::paths::byte;
 use oracle::paths::play;
 use oracle::rules::above;
 use oracle::rules::rank_of;
+use oracle::rules::weight;
 use say::front;
 use say::numbers;
 
@@ -35,20 +40,43 @@ fn same_bodies(first: &[u8], second: &[u8]) -> bool {
         & check::same(book_in(first), book_in(second))
 }
 
-// The body of kind 6, no byte where there is none. Its entry is the last one, so the contents end with its length; what is 6 times the
-// number of entries is the offset of that field.
-fn balances_in(file: &[u8]) -> &[u8] {
-    let last = 6 * byte(file, 0) as usize;
-    let kind = byte(file, std::num::wrapping_sub_usize(last, 4));
-    let start = byte(file, std::num::wrapping_sub_usize(last, 2)) as usize;
-    let length = if kind == 6 { byte(file, last) } else { 0 };
+// The offset of a kind's entry; 0 where there is none. No file has more than 7.
+fn entry_in(file: &[u8], kind: u8) -> usize
+    ensures { λ r. ⌜ r < 44 ⌝ }
+{
+    for e in 0..7u8 {
+        let at = 2 + 6 * e as usize;
+        if (e < byte(file, 0)) & (byte(file, at) == kind) {
+            return at;
+        }
+    }
+    0
+}
+
+// The body of a kind, no byte where there is none.
+fn body_in(file: &[u8], kind: u8) -> &[u8] {
+    let at = entry_in(file, kind);
+    let start = byte(file, at + 2) as usize;
+    let length = if at == 0 { 0 } else { byte(file, at + 4) };
     numbers::bytes(file, start / 2, length as usize)
 }
 
-// Whether each seat's balance is the same, 0 where the file has none.
-fn same_balances(first: &[u8], second: &[u8]) -> bool {
-    for i in 0..4usize {
-        if numbers::at(first, i) != numbers::at(second, i) {
+// A number in force, of those that can be missing: a seat's balance (kind 6), 0 where the file has none, or a class's weight (kind 7),
+// paper 01's where the file has none.
+fn in_force(file: &[u8], kind: u8, i: usize) -> u16
+    requires { ⌜ i < 8 ⌝ }
+{
+    let body = body_in(file, kind);
+    if (kind == 7) & (body.len() == 0) {
+        return BUILT_IN[i];
+    }
+    numbers::at(body, i)
+}
+
+// Whether these numbers are the same, of 4 seats or of 8 classes: behind the last seat's balance they are 0.
+fn same_in_force(first: &[u8], second: &[u8], kind: u8) -> bool {
+    for i in 0..8usize {
+        if in_force(first, kind, i) != in_force(second, kind, i) {
             return false;
         }
     }
@@ -57,12 +85,27 @@ fn same_balances(first: &[u8], second: &[u8]) -> bool {
 
 // Line 17 does not hold.
 fn one_book(first: &[u8], second: &[u8]) -> bool {
-    same_bodies(first, second) & same_balances(balances_in(first), balances_in(second))
+    same_bodies(first, second) & same_in_force(first, second, 6) & same_in_force(first, second, 7)
 }
 
-// Whether one of two files has balances and the other has none.
-fn in_one_only(first: &[u8], second: &[u8]) -> bool {
-    (balances_in(first).len() == 0) != (balances_in(second).len() == 0)
+// Whether one of two files has a body of a kind and the other has none.
+fn in_one_only(first: &[u8], second: &[u8], kind: u8) -> bool {
+    (entry_in(first, kind) == 0) != (entry_in(second, kind) == 0)
+}
+
+fn small_in(file: &[u8]) -> Small {
+    let read = reader::read(file);
+    small_of(read.day)
+}
+
+// Whether each seat has the same weight in both files.
+fn same_weights(first: &[u8], second: &[u8]) -> bool {
+    let a = small_in(first);
+    let b = small_in(second);
+    (weight(a, 0) == weight(b, 0))
+        & (weight(a, 1) == weight(b, 1))
+        & (weight(a, 2) == weight(b, 2))
+        & (weight(a, 3) == weight(b, 3))
 }
 
 fn rank_in(file: &[u8]) -> [u64; 8] {
@@ -146,30 +189,41 @@ fn put_played(file: &[u8], out: &mut [u8]) -> usize {
     put_small(out, s, true, cells)
 }
 
-// Two files in both orders. What else they show is counted as lines 1 to 3 of neither: equal lists, where the first of two sheets is chosen
-// in either order; one book, though one file has balances, all of them 0, and the other none; and two books that differ in balances alone.
+// What two files show of balances and weights, which can be missing, is counted as lines 2 to 6 of neither: one book, though one file has
+// them and the other has none; and two books that differ in balances alone, in weights alone, and in weights alone that no seat has.
+fn count_missing(tally: Tally, first: &[u8], second: &[u8], refusal: u32) -> Tally {
+    let chosen = refusal == 0;
+    let seen = count_if(tally, chosen & in_one_only(first, second, 6), 0, 2);
+    let seen = count_if(seen, chosen & in_one_only(first, second, 7), 0, 4);
+    if (refusal != 17) | !same_bodies(first, second) {
+        return seen;
+    }
+    let balances = same_in_force(first, second, 6);
+    let weights = same_in_force(first, second, 7);
+    let seen = count_if(seen, weights, 0, 3);
+    let seen = count_if(seen, balances, 0, 5);
+    count_if(seen, balances & same_weights(first, second), 0, 6)
+}
+
+// Two files in both orders. Equal lists, where the first of two sheets is chosen in either order, are counted as line 1 of neither.
 fn judge_both<'a>(tally: Tally, first: &'a [u8], second: &'a [u8]) -> Tally {
     let seen = judge_pair(judge_pair(tally, first, second), second, first);
     let a = answered(first, second);
     let b = answered(second, first);
-    let chosen = a.refusal == 0;
-    let equal = chosen & (a.file == b.file) & !check::same(first, second);
-    let seen = count_if(seen, equal, 0, 1);
-    let seen = count_if(seen, chosen & in_one_only(first, second), 0, 2);
-    let apart = (a.refusal == 17) & same_bodies(first, second);
-    count_if(seen, apart, 0, 3)
+    let equal = (a.refusal == 0) & (a.file == b.file) & !check::same(first, second);
+    count_missing(count_if(seen, equal, 0, 1), first, second, a.refusal)
 }
 
 // A hand-in against another, mostly of the same book, and against itself after the marker's moves.
 pub fn judge(state: &mut u32, tally: Tally) -> Tally {
     let s = draw_small(state);
     let other = draw_other(state, s);
-    let mut first = [0u8; 128];
+    let mut first = [0u8; SMALL_ROOM];
     let n = draw_hand_in(state, &mut first, s);
-    let mut second = [0u8; 128];
+    let mut second = [0u8; SMALL_ROOM];
     let m = draw_hand_in(state, &mut second, other);
     let seen = judge_both(tally, front(&first, n), front(&second, m));
-    let mut played = [0u8; 128];
+    let mut played = [0u8; SMALL_ROOM];
     let k = put_played(front(&first, n), &mut played);
     judge_both(seen, front(&first, n), front(&played, k))
 }

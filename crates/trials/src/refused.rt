@@ -9,6 +9,7 @@ use crate::tally::Tally;
 use crate::tally::count;
 use dayfile::Day;
 use dayfile::LONGEST_FILE;
+use draws::SMALL_ROOM;
 use draws::below;
 use draws::damage::draw_day;
 use draws::damage::draw_file;
@@ -61,7 +62,7 @@ fn lists(file: &[u8]) -> bool {
 
 // Whether what was read of a file is written as the same bytes.
 fn written_again(file: &[u8]) -> bool {
-    let w = see_file(Call::Write, file, 128);
+    let w = see_file(Call::Write, file, SMALL_ROOM);
     gives(w, 0, 0) & w.same
 }
 
@@ -69,7 +70,7 @@ fn written_again(file: &[u8]) -> bool {
 fn judge_file(tally: Tally, file: &[u8], short: bool) -> Tally {
     let first = read_check(file);
     let m = see_file(Call::Mark, file, pick(short, MOVES_ROOM - 1, MOVES_ROOM));
-    let p = see_file(Call::Plan, file, pick(short, 60, 128));
+    let p = see_file(Call::Plan, file, pick(short, 60, SMALL_ROOM));
     let seen = judge_call(tally, 0, m, first, false);
     let seen = judge_call(seen, 1, p, first, true);
     // no line has this number, so nothing is counted but what is wrong
@@ -91,7 +92,7 @@ fn judge_day(tally: Tally, day: Day, short: bool) -> Tally {
 // A damaged file, and a damaged book.
 pub fn judge(state: &mut u32, tally: Tally) -> Tally {
     let short = below(state, 8) == 0;
-    let mut file = [0u8; 128];
+    let mut file = [0u8; SMALL_ROOM];
     let length = draw_file(state, &mut file);
     let seen = judge_file(tally, front(&file, length), short);
     judge_day(seen, draw_day(state), short)

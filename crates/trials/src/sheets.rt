@@ -5,9 +5,11 @@ use crate::tally::Tally;
 use crate::tally::count;
 use crate::tally::count_if;
 use dayfile::Day;
+use draws::SMALL_ROOM;
 use draws::put_small;
 use draws::small::draw_small;
 use draws::small::without_balances;
+use draws::small::without_weights;
 use lawful::MOVES_ROOM;
 use oracle::Small;
 use oracle::marks::Told;
@@ -70,7 +72,7 @@ fn judge_mark(s: Small, best: [u64; 8], cells: [u16; 12], file: &[u8]) -> Verdic
 
 // A feasible sheet.
 fn judge_sheet(tally: Tally, s: Small, best: [u64; 8], cells: [u16; 12]) -> Tally {
-    let mut file = [0u8; 112];
+    let mut file = [0u8; SMALL_ROOM];
     let length = put_small(&mut file, s, true, cells);
     let v = judge_mark(s, best, cells, front(&file, length));
     count(count(tally, 0, v.mark as usize, v.right), 1, v.moves, true)
@@ -93,9 +95,9 @@ fn judge_sheets(tally: Tally, s: Small, best: [u64; 8]) -> Tally {
     seen
 }
 
-// Whether a file is that of a book with these cells, a first seat that it names and its balances included.
+// Whether a file is that of a book with these cells, a first seat that it names, its balances and its own weights included.
 fn is_file(file: &[u8], s: Small, cells: [u16; 12]) -> bool {
-    let mut written = [0u8; 112];
+    let mut written = [0u8; SMALL_ROOM];
     let length = put_small(&mut written, s, true, cells);
     check::same(file, front(&written, length))
 }
@@ -104,13 +106,14 @@ fn is_file(file: &[u8], s: Small, cells: [u16; 12]) -> bool {
 fn rightly_planned(s: Small, cells: [u16; 12]) -> bool {
     let small = s.caps;
     let caps = grid_of(small);
-    let mut out = [255u8; 120];
+    let mut out = [255u8; SMALL_ROOM];
     let end = plan_day(Day::new(book_of(s), caps, false, caps), &mut out);
     is_file(front(&out, end), s, cells)
 }
 
 // A random small book, planned, and each of its feasible sheets marked. Books with several settled sheets are counted apart, since only
-// they have a settled sheet that is not the standard one. So are those with balances, and those that would be planned otherwise without.
+// they have a settled sheet that is not the standard one. So are those with balances, and those that would be planned otherwise without;
+// and those with weights of their own, likewise.
 pub fn judge(state: &mut u32, tally: Tally) -> Tally {
     let s = draw_small(state);
     let best = best_of(s);
@@ -120,5 +123,8 @@ pub fn judge(state: &mut u32, tally: Tally) -> Tally {
     let seen = count(tally, 2, number, rightly_planned(s, standard));
     let seen = count_if(seen, s.has_balances, 2, 3);
     let decide = !rightly_planned(without_balances(s), standard);
-    judge_sheets(count_if(seen, decide, 2, 4), s, rank)
+    let seen = count_if(seen, decide, 2, 4);
+    let seen = count_if(seen, s.has_weights, 2, 5);
+    let decide = !rightly_planned(without_weights(s), standard);
+    judge_sheets(count_if(seen, decide, 2, 6), s, rank)
 }
