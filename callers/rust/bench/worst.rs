@@ -48,10 +48,10 @@ pub fn search(seconds: u64) {
     let (mut longest, mut climbs) = (0.0, 0);
     while Instant::now() < end {
         let (name, cost) = COSTS[climbs % COSTS.len()];
-        let draw = [any_book, level_book, loaded_book][climbs / COSTS.len() % 3];
+        let draw = [any_book, level_book, loaded_book, light_book][climbs / COSTS.len() % 4];
         let books = (0..1000).map(|_| draw(&mut rng));
         let start = books.max_by_key(|book| met.cost(book, cost)).expect("1000 books");
-        let until = end.min(Instant::now() + Duration::from_secs(seconds.div_ceil(12)));
+        let until = end.min(Instant::now() + Duration::from_secs(seconds.div_ceil(16)));
         let (book, changes) = climb(&mut rng, &mut met, cost, start.clone(), until);
         let time = plan_time(&book);
         println!("climb {climbs} by {name}: {}", took(&start));
@@ -122,6 +122,25 @@ fn loaded_book(rng: &mut Rng) -> Book {
         }
     }
     Book { balances: Some(balances), ..book }
+}
+
+/// A book in which a few seats are light and all others heavy, with narrow cells and wide ones: a light seat takes few credits before it
+/// stands as high as the others, so that the fast part goes by small steps.
+fn light_book(rng: &mut Rng) -> Book {
+    let mut book = any_book(rng);
+    let (light, most, one_in) = (rng.between(1, 4), rng.between(1, 64), rng.between(1, 4));
+    for seat in 0..SEATS {
+        book.classes[seat] = if seat < light { 1 } else { rng.between(7, 8) as u16 };
+        book.caps[seat][..book.windows].fill_with(|| match rng.once_in(one_in) {
+            true => rng.between(1, most) as u16,
+            false => rng.once_in(3) as u16 * rng.between(64, 4095) as u16,
+        });
+    }
+    for window in 0..book.windows {
+        let caps: usize = book.caps.iter().map(|row| row[window] as usize).sum();
+        book.supplies[window] = (caps * rng.between(1, 15) / 16).min(4095) as u16;
+    }
+    Book { weights: Some([1, 994, 995, 996, 997, 998, 999, 1000]), ..book }
 }
 
 impl Met {

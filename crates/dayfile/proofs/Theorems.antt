@@ -5,12 +5,14 @@ use mathlib.Core.Logic.{_↔_}
 use mathlib.Core.Option.{Option, none, some}
 use mathlib.Core.Bool.{true}
 use mathlib.Core.Path.{_≡_, refl, sym, _∙_, ap, ap₂, subst}
-use Prim.Native.Nat.{ℕ, _≤_}
+use Prim.Native.Nat.{ℕ, _-_, _≤_, _<_}
 use native.Mathlib.Omega.{arith}
 use lib.ListN.{length, getD}
 use Rattle.fairness.specs.Classes.{classWeights}
 use Rattle.model.specs.Lowest.{lowest, getOr}
-use Rattle.model.specs.Book.{Book, Grid, weightsOf}
+use Rattle.fairness.proofs.Weights.{getD-inside}
+use Rattle.model.specs.Book.{Book, Grid, seats, weightsOf, instanceOf}
+use Rattle.model.proofs.Weights.{weight-as}
 use Rattle.sheet.specs.Sheets.{gridOf}
 use Rattle.dayfile.specs.Bounds.{Fit, WeightsFit, SheetFit, TwoByte, longestFile}
 use Rattle.dayfile.specs.Layout.{Bytes, bookOf, sheetOf}
@@ -70,6 +72,16 @@ in-force-fits b fit = go (b .weights) (fit .weights-fit)
     go : (o : Option (List ℕ)) → WeightsFit o → WeightsFit (some (getOr o classWeights))
     go none h = built-in-fits
     go (some ws) h = h
+
+-- and a seat has the weight in force of its class, as it stands in the table
+pub seat-weight : (b : Book) → Fit b → (i : ℕ) → i < seats b → instanceOf b .weight i ≡ getD (weightsOf b) (getD (b .classes) i 0 - 1) 0
+unfolding instanceOf
+seat-weight b fit i l =
+    let class : ℕ = getD (b .classes) i 0 in
+    let f = in-force-fits b fit in
+    let k : class - 1 < 8 = omega (arith, fit .class-low i l, fit .class-high i l) in
+    let inside = getD-inside (weightsOf b) 1 0 (class - 1) (omega (arith, f .0)) in
+    weight-as (weightsOf b) class (omega (arith, inside, f .1 (class - 1) k .0)) ∙ inside
 
 -- a book that fits, with or without a sheet, written and read, is the same, and so is the sheet
 pub written-reads-back : (b : Book) (s : Option Grid) → Fit b → SheetFit b s → readFile (fileOf b s) ≡ answer (b, s)

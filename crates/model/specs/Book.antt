@@ -83,7 +83,7 @@ abbrev pub positive : ℕ → ℕ
 positive zero = 1
 positive (suc x) = suc x
 
--- a class's weight in such a table; what is no class counts as 1
+-- a class's weight in such a table; no file holds another class than 1 to 8: here 0 counts as class 1, and what is above 8 has weight 1
 unfoldable pub weightIn : List ℕ → ℕ → ℕ
 weightIn weights class = positive (getD weights (class - 1) 1)
 

@@ -143,7 +143,9 @@ examples =
     ∷ example (weighed large k7) ((1 ∷ []) ∷ (0 ∷ []) ∷ []) 2 1 (1 ∷ 0 ∷ [])
     -- weights 1 and 3 with balances 0 and 4: 2 and 4 + 2 over 3 are level
     ∷ example (weighed steep (carried (0 ∷ 4 ∷ []) k5)) ((2 ∷ []) ∷ (2 ∷ []) ∷ []) 4 0 (2 ∷ 2 ∷ [])
-    -- weights of 0, which no file holds, count as 1
-    ∷ example (weighed (0 ∷ 0 ∷ []) k5) ((3 ∷ []) ∷ (1 ∷ []) ∷ []) 2 1 (3 ∷ 1 ∷ [])
-    ∷ example (weighed (0 ∷ 0 ∷ []) k5) ((2 ∷ []) ∷ (2 ∷ []) ∷ []) 4 0 (2 ∷ 2 ∷ [])
+    -- K3's book with weights of its own on a day when seat 2 comes first
+    ∷ example (weighed large (firstIs 2 k3)) ((1 ∷ []) ∷ (2 ∷ []) ∷ []) 4 0 (1 ∷ 2 ∷ [])
+    -- a weight of 0, which no file holds, counts as 1: as with weights 1 and 3
+    ∷ example (weighed (0 ∷ 3 ∷ []) k5) ((1 ∷ []) ∷ (3 ∷ []) ∷ []) 4 0 (1 ∷ 3 ∷ [])
+    ∷ example (weighed (0 ∷ 3 ∷ []) k5) ((2 ∷ []) ∷ (2 ∷ []) ∷ []) 2 1 (2 ∷ 2 ∷ [])
     ∷ []
