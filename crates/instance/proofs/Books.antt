@@ -22,11 +22,11 @@ use Rattle.dayfile.proofs.Used.{class-in, supply-in, cap-in}
 use Rattle.dayfile.proofs.Held.{seats-in, windows-in}
 use Rattle.dayfile.proofs.Theorems.{in-force-fits}
 use Rattle.instance.specs.declared.Terms.{Terms}
-use Rattle.instance.specs.Terms.{inForce, weightsInForce, Told, Ranged}
+use Rattle.instance.specs.Terms.{balancesInForce, weightsInForce, Told, Ranged}
 
 -- ---- a balance in force is that of the book
 
-pub balance-in : (m : Memory.Book) (caps : Grid) (i : ℕ) → i < m .seats → balanceOf (bookIn m caps) i ≡ getD (inForce m) i 0
+pub balance-in : (m : Memory.Book) (caps : Grid) (i : ℕ) → i < m .seats → balanceOf (bookIn m caps) i ≡ getD (balancesInForce m) i 0
 unfolding bookIn
 balance-in m caps i l = go (m .«has_balances»)
   where
@@ -70,7 +70,7 @@ module _ (m : Memory.Book) (caps : Grid) (fit : Fit (bookIn m caps)) where
       let inside : j < windows (bookIn m caps) = omega (arith, windows-in m caps) in
       omega (arith, supply-in m caps j l, fit .supply-high j inside)
 
-  balance-ranged : (i : ℕ) → i < m .seats → getD (inForce m) i 0 ≤ 50000
+  balance-ranged : (i : ℕ) → i < m .seats → getD (balancesInForce m) i 0 ≤ 50000
   balance-ranged i l =
       omega (arith, balance-in m caps i l, go (bookIn m caps .balances) (fit .balances-fit) (omega (arith, seats-in m caps)))
     where
@@ -101,7 +101,7 @@ module _ (m : Memory.Book) (caps : Grid) (fit : Fit (bookIn m caps)) where
 abbrev pub Known : Memory.Book → (first : ℕ) (ws₀ bs₀ ps₀ : List ℕ) (k : ℕ) (ws bs ps : List ℕ) → Type 0
 Known m first ws₀ bs₀ ps₀ k ws bs ps =
     Filled (λ i w. w ≡ getD (weightsInForce m) (getD (m .classes) i 0 - 1) 0) 0 32 (m .seats) ws₀ k ws
-    × Filled (λ i b. b ≡ getD (inForce m) i 0) 0 32 (m .seats) bs₀ k bs
+    × Filled (λ i b. b ≡ getD (balancesInForce m) i 0) 0 32 (m .seats) bs₀ k bs
     × Filled (λ i p. p ≡ placeFrom first (m .seats) i) 0 32 (m .seats) ps₀ k ps
 
 -- ---- its end
@@ -114,7 +114,7 @@ module _ (m : Memory.Book) (k first : ℕ) (ws₀ bs₀ ps₀ ws bs ps : List �
   weight-at : (i : ℕ) → i < m .seats → getD ws i 0 ≡ getD (weightsInForce m) (getD (m .classes) i 0 - 1) 0
   weight-at = filled-at (known .0) l
 
-  base-at : (i : ℕ) → i < m .seats → getD bs i 0 ≡ getD (inForce m) i 0
+  base-at : (i : ℕ) → i < m .seats → getD bs i 0 ≡ getD (balancesInForce m) i 0
   base-at = filled-at (known .1) l
 
   position-at : (i : ℕ) → i < m .seats → getD ps i 0 ≡ placeFrom first (m .seats) i

@@ -24,8 +24,8 @@ instanceIn t caps =
     }
 
 -- the balances in force: those of the book in memory, or zeros where there are none
-abbrev pub inForce : Memory.Book → List ℕ
-inForce m = cond (m .«has_balances») (m .balances) (replicate 32 0)
+abbrev pub balancesInForce : Memory.Book → List ℕ
+balancesInForce m = cond (m .«has_balances») (m .balances) (replicate 32 0)
 
 -- the weights in force of classes 1 to 8: those of the book in memory, or paper 01's where there are none
 abbrev pub weightsInForce : Memory.Book → List ℕ

@@ -7,7 +7,7 @@ ghost use Rattle.model.specs.Lowest.{when, getOr};
 ghost use Rattle.model.specs.Book.{Grid, placeFrom, instanceOf};
 ghost use Rattle.dayfile.specs.Bounds.{Fit};
 ghost use Rattle.dayfile.specs.Memory.{bookIn};
-ghost use Rattle.instance.specs.Terms.{inForce, weightsInForce, Told, Ranged};
+ghost use Rattle.instance.specs.Terms.{balancesInForce, weightsInForce, Told, Ranged};
 use dayfile::Book;
 
 // An instance by value, without its caps, which stand beside it as an array of arrays. The first seats and windows are used.
@@ -49,7 +49,7 @@ fn place(first: usize, n: usize, seat: usize) -> u32
 
 // The balances in force: zeros where there are none.
 pub fn balances(book: Book) -> [u16; 32]
-    ensures { λ r. ⌜ r ≡ inForce book ⌝ }
+    ensures { λ r. ⌜ r ≡ balancesInForce book ⌝ }
 {
     if book.has_balances {
         return book.balances;

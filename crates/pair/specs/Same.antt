@@ -4,7 +4,7 @@ use mathlib.Core.List.{List}
 use Prim.Native.Nat.{ℕ, _<_}
 use lib.ListN.{getD}
 use Rattle.dayfile.specs.declared.Book as Memory
-use Rattle.instance.specs.Terms.{inForce, weightsInForce}
+use Rattle.instance.specs.Terms.{balancesInForce, weightsInForce}
 
 -- the first n numbers of two arrays
 abbrev pub SameUpTo : ℕ → List ℕ → List ℕ → Type 0
@@ -20,5 +20,5 @@ pub record SameLists (a b : Memory.Book) : Type 0 where
   pub windows : a .windows ≡ b .windows
   pub classes : SameUpTo (a .seats) (a .classes) (b .classes)
   pub supplies : SameUpTo (a .windows) (a .supplies) (b .supplies)
-  pub balances : SameUpTo (a .seats) (inForce a) (inForce b)
+  pub balances : SameUpTo (a .seats) (balancesInForce a) (balancesInForce b)
   pub weights : SameUpTo 8 (weightsInForce a) (weightsInForce b)
