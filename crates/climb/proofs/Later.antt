@@ -18,7 +18,7 @@ use Rattle.masks.proofs.Laws.{bit-zero}
 use Rattle.reach.specs.Graphs.{Collects, Rows}
 use Rattle.reach.proofs.Collect.{rows-none, rows-next}
 use Rattle.exchange.proofs.Drawing.{Added, HasRoom, HoldersOf, held-first, held-next}
-use Rattle.climb.specs.Cycles.{Shown}
+use Rattle.exchange.specs.Graphs.{Shown}
 
 module _ (t : Terms) (caps grid : Grid) (i j : ℕ) where
   abbrev I : Instance

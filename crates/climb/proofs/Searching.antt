@@ -1,16 +1,15 @@
 -- The search for a cycle, on the graph of the later seats and on the grid. Assumes nothing.
 use mathlib.Core.Path.{_≡_, refl, sym, _∙_, subst}
 use mathlib.Core.Bool.{Bool, true, false}
-use mathlib.Core.Logic.{_↔_, inr}
+use mathlib.Core.Logic.{_↔_}
 use mathlib.Core.List.{List}
-use Prim.Native.Nat.{ℕ, suc, _+_, _-_, _≤_, _<_, min}
+use Prim.Native.Nat.{ℕ, _+_, _-_, _≤_, _<_, min}
 use native.Mathlib.Decide.{ℕ-discrete, decLt}
 use native.Mathlib.Omega.{arith}
 use lib.ListN.{getD, replicate}
 use Rattle.lists.proofs.Arrays.{zeros-at}
 use Rattle.fairness.specs.Instance.{Instance, Proper, Sheet}
 use Rattle.fairness.specs.Exchange.{Possible, Settled}
-use Rattle.fairness.specs.Cuts.{Closed}
 use Rattle.fairness.specs.Raising.{Topmost, closing, laterSheet, laterSeats}
 use Rattle.fairness.proofs.Decide.{keep-no}
 use Rattle.fairness.proofs.Standard.{capped-topmost, blocked-topmost, closed-blocked, later-raises}
@@ -23,10 +22,11 @@ use Rattle.paths.specs.declared.Kind.the-variants.{None}
 use Rattle.paths.specs.Layers.{Meets}
 use Rattle.paths.specs.Paths.{movesOf}
 use Rattle.paths.specs.Steps.{Drawn}
-use Rattle.exchange.proofs.Drawing.{drawn}
+use Rattle.exchange.specs.Graphs.{Shown}
+use Rattle.exchange.proofs.Drawing.{drawn, reached-closed}
 use Rattle.exchange.proofs.Finding.{writable}
 use Rattle.climb.specs.declared.Cycle.{Cycle}
-use Rattle.climb.specs.Cycles.{Shown, ClosesIn, CycleIn, Raising, Finds}
+use Rattle.climb.specs.Cycles.{ClosesIn, CycleIn, Raising, Finds}
 
 -- ---- sets of windows
 
@@ -100,19 +100,14 @@ module _ (I : Instance) (S : Sheet) (i j : ℕ) (graph : Graph) where
 
   module _ (shown : Shown J T graph) where
     draws : Drawn J T graph
-    draws = drawn J T graph (shown .rooms-are) (shown .holders-are)
-
-    -- what seat i reaches is closed
-    reached-closed : Closed J T (Reached graph i)
-    reached-closed m p (r, q) =
-        (suc r, inr (m .taker, (q, record { via = m .window; here = draws (m .taker) (m .giver) (m .window) .1 p })))
+    draws = drawn J T graph shown
 
     module _ (proper : Proper I) (settled : Settled I S) (li : i < I .seats) (lj : j < I .windows)
         (goals : ℕ) (held : Collects (I .windows) (λ w. (j < w) × (0 < S i w)) goals) where
       none-topmost : ((l q : ℕ) → Reached graph i l → In q (setAt (graph .rooms) l) → In q goals → ⊥) → Topmost I S i j
       none-topmost none =
           blocked-topmost I proper S settled _ i j li lj
-          (closed-blocked I S i j (Reached graph i) li (0, refl) reached-closed closes)
+          (closed-blocked I S i j (Reached graph i) li (0, refl) (reached-closed J T graph draws i) closes)
         where
           closes : (l q : ℕ) → Reached graph i l → i < l → j < q → Possible I S (closing i l q) → ⊥
           closes l q r b a p =

@@ -2,7 +2,6 @@
 use mathlib.Core.Path.{_≡_}
 use mathlib.Core.Bool.{Bool, true, false}
 use mathlib.Core.List.{List, _∷_}
-use mathlib.Core.Logic.{_↔_}
 use Prim.Native.Nat.{ℕ, _<_}
 use Rattle.fairness.specs.Instance.{Instance, Sheet}
 use Rattle.fairness.specs.Exchange.{Move, Settled}
@@ -10,7 +9,7 @@ use Rattle.fairness.specs.Raising.{Topmost, TopBefore, Raises}
 use Rattle.masks.specs.Sets.{In}
 use Rattle.sheet.specs.Sheets.{moveOf}
 use Rattle.reach.specs.declared.Graph.{Graph}
-use Rattle.reach.specs.Graphs.{setAt, Rows, Reached}
+use Rattle.reach.specs.Graphs.{setAt, Reached}
 use Rattle.paths.specs.declared.Kind.the-variants.{None}
 use Rattle.paths.specs.Paths.{movesOf}
 use Rattle.paths.specs.Steps.{Nearest}
@@ -18,11 +17,6 @@ use Rattle.exchange.specs.Paths.{Writable}
 use Rattle.climb.specs.declared.Cycle.{Cycle}
 
 -- ---- on a graph
-
--- the sets of a graph are those of a sheet: the windows in which each seat is below its cap, and who has a credit in each window
-pub record Shown (I : Instance) (S : Sheet) (graph : Graph) : Type 0 where
-  pub rooms-are : Rows (I .seats) (λ k w. (w < I .windows) × (S k w < I .cap k w)) (graph .rooms)
-  pub holders-are : (w k : ℕ) → In k (setAt (graph .holders) w) ↔ ((k < I .seats) × ((w < I .windows) × (0 < S k w)))
 
 -- a cycle that closes in window q: its path leads from seat i to a seat that has room there
 pub record ClosesIn (graph : Graph) (i q : ℕ) (c : Cycle) : Type 0 where

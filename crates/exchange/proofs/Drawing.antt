@@ -2,7 +2,7 @@
 use mathlib.Core.Path.{_≡_, sym, _∙_}
 use mathlib.Core.Logic.{_⊎_, _↔_, inl, inr, ⊎-elim}
 use mathlib.Core.List.{List}
-use Prim.Native.Nat.{ℕ, _+_, _<_}
+use Prim.Native.Nat.{ℕ, suc, _+_, _<_}
 use native.Mathlib.Decide.{ℕ-discrete}
 use native.Mathlib.Omega.{arith}
 use lib.ListN.{length, getD, set, replicate}
@@ -10,14 +10,16 @@ use lib.Seq.{getD-set-same, getD-set-other}
 use Rattle.lists.proofs.Arrays.{zeros-at}
 use Rattle.fairness.specs.Instance.{Instance, Sheet}
 use Rattle.fairness.specs.Exchange.{Move, Possible}
+use Rattle.fairness.specs.Cuts.{Closed}
 use Rattle.model.specs.Book.{Grid, cell}
 use Rattle.masks.specs.Sets.{In, Inserted}
 use Rattle.masks.proofs.Laws.{bit-zero}
 use Rattle.instance.specs.declared.Terms.{Terms}
 use Rattle.instance.specs.Terms.{instanceIn, Told, Shows}
 use Rattle.reach.specs.declared.Graph.{Graph}
-use Rattle.reach.specs.Graphs.{setAt, Rows}
+use Rattle.reach.specs.Graphs.{setAt, Reached}
 use Rattle.paths.specs.Steps.{Drawn}
+use Rattle.exchange.specs.Graphs.{Shown}
 
 -- ---- a further holder
 
@@ -113,19 +115,23 @@ held-next S windows n sets sets′ cells h same a w k = (to, from)
         ]
 
 -- its sets show the moves that are possible
-pub drawn : (I : Instance) (S : Sheet) (graph : Graph) → Rows (I .seats) (HasRoom S (I .cap) (I .windows)) (graph .rooms)
-    → HoldersOf S (I .windows) (I .seats) (graph .holders) → Drawn I S graph
-drawn I S graph rooms held k l w = (
+pub drawn : (I : Instance) (S : Sheet) (graph : Graph) → Shown I S graph → Drawn I S graph
+drawn I S graph shown k l w = (
   λ p.
-      let taker = rooms k w .0 (p .member) in
-      let giver = held w l .0 (p .leads) in
+      let taker = shown .rooms-are k w .0 (p .member) in
+      let giver = shown .holders-are w l .0 (p .leads) in
       record { in-window = taker .1 .0; in-giver = giver .0; in-taker = taker .0; has = giver .1 .1; room = taker .1 .1 },
   λ p.
       record {
-        member = rooms k w .1 (p .in-taker, (p .in-window, p .room));
-        leads = held w l .1 (p .in-giver, (p .in-window, p .has));
+        member = shown .rooms-are k w .1 (p .in-taker, (p .in-window, p .room));
+        leads = shown .holders-are w l .1 (p .in-giver, (p .in-window, p .has));
       },
 )
+
+-- what a seat reaches is closed
+pub reached-closed : (I : Instance) (S : Sheet) (graph : Graph) → Drawn I S graph → (g : ℕ) → Closed I S (Reached graph g)
+reached-closed I S graph draws g m p (r, q) =
+    (suc r, inr (m .taker, (q, record { via = m .window; here = draws (m .taker) (m .giver) (m .window) .1 p })))
 
 -- ---- and of all that the memory tells and shows
 

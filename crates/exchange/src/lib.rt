@@ -9,6 +9,7 @@ ghost use Rattle.instance.specs.Terms.{instanceIn, Told, Shows, Small};
 ghost use Rattle.masks.specs.Sets.{In};
 ghost use Rattle.reach.specs.Graphs.{setAt, Collects};
 ghost use Rattle.paths.specs.Paths.{movesOf};
+ghost use Rattle.exchange.specs.Graphs.{Shown};
 ghost use Rattle.exchange.specs.Paths.{Writable, Answers};
 use instance::Terms;
 use paths::ExchangePath;
@@ -47,6 +48,23 @@ pub fn with_holder(holders: [u32; 24], cells: &[u16; 24], windows: usize, seat: 
     all
 }
 
+// Who can take a credit from whom on a sheet.
+pub fn graph_of(grid: &Caps, caps: &Caps, t: Terms) -> Graph
+    requires { ⌜ (t .seats ≤ 32) × (t .windows ≤ 24) ⌝ }
+    ensures { λ r. ⌜ Shown (instanceIn t (now (caps .entry))) (cell (now (grid .entry))) r ⌝ }
+{
+    let seats = t.seats;
+    let windows = t.windows;
+    let mut rooms = [0u32; 32];
+    let mut holders = [0u32; 24];
+    for i in 0..seats {
+        rooms[i] = below(&grid[i], &caps[i], windows);
+        let more = with_holder(holders, &grid[i], windows, i);
+        holders = more;
+    }
+    Graph { rooms, holders }
+}
+
 // An exchange path that improves, and where there is none one that ties wrongly.
 pub fn find_path(grid: &Caps, caps: &Caps, t: Terms) -> ExchangePath
     requires { ⌜ Small t (now caps) ⌝ }
@@ -61,19 +79,13 @@ pub fn find_path(grid: &Caps, caps: &Caps, t: Terms) -> ExchangePath
     let weights = t.weights;
     let positions = t.positions;
     let mut heights = [0u32; 32];
-    let mut rooms = [0u32; 32];
-    let mut holders = [0u32; 24];
     for seat in 0..seats {
         heights[seat] = bases[seat] + row_total(&grid[seat], windows);
-        rooms[seat] = below(&grid[seat], &caps[seat], windows);
-        let more = with_holder(holders, &grid[seat], windows, seat);
-        holders = more;
     }
     let scores = Scores {
         heights,
         weights,
         positions,
     };
-    let graph = Graph { rooms, holders };
-    find(scores, graph, seats)
+    find(scores, graph_of(grid, caps, t), seats)
 }
