@@ -23,7 +23,9 @@ fn set(file: &mut [u8], at: usize, value: u8) {
     }
 }
 
-fn lesser(a: u16, b: u16) -> u16 {
+pub fn lesser(a: u16, b: u16) -> u16
+    ensures { λ r. ⌜ r ≤ b ⌝ }
+{
     if a < b { a } else { b }
 }
 
@@ -47,7 +49,7 @@ fn draw_sheet(state: &mut u32, s: Small) -> [u16; 12] {
 }
 
 // The file of a small book, mostly with a sheet.
-fn draw_written(state: &mut u32, file: &mut [u8], s: Small) -> usize {
+pub fn draw_written(state: &mut u32, file: &mut [u8], s: Small) -> usize {
     let there = below(state, 4) != 0;
     let cells = draw_sheet(state, s);
     put_small(file, s, there, cells)
@@ -133,7 +135,7 @@ fn resize(state: &mut u32, file: &mut [u8], length: usize) -> usize {
 }
 
 // The two bytes of a field.
-fn set_field(file: &mut [u8], at: usize, x: u16) {
+pub fn set_field(file: &mut [u8], at: usize, x: u16) {
     set(file, at, (x % 256) as u8);
     set(file, std::num::wrapping_add_usize(at, 1), (x / 256) as u8);
 }

@@ -11,6 +11,7 @@ use oracle::numbers::times;
 pub mod damage;
 pub mod full;
 pub mod small;
+pub mod wanted;
 
 // More bytes than any file of a small book has, damaged or not.
 pub const SMALL_ROOM: usize = 160;

@@ -9,6 +9,7 @@ pub mod numbers;
 pub mod paths;
 pub mod rules;
 pub mod standard;
+pub mod wanted;
 
 pub struct Small {
     pub seats: usize,
@@ -25,6 +26,9 @@ pub struct Small {
 
 // Paper 01's weights, of classes 1 to 8.
 pub const BUILT_IN: [u16; 8] = [1, 2, 3, 5, 8, 12, 20, 40];
+
+// No small book has more sheets: 12 cells, and no cap above 3.
+pub const SHEETS: u32 = 16777216;
 
 // One more, or 0 again above the cap.
 fn next_cell(x: u16, cap: u16) -> u16 {

@@ -1,5 +1,7 @@
 // Small books and sheets in the form that the library takes.
+ghost use Prim.Native.Nat.{_<_};
 use crate::Small;
+use crate::paths::byte;
 use dayfile::Book;
 use dayfile::Day;
 use sheet::Caps;
@@ -65,4 +67,28 @@ pub fn small_of(day: Day) -> Small {
         has_weights: book.has_weights,
         weights,
     }
+}
+
+// Where the cell of a place lies in a sheet body, counted in fields. The book has at most 3 windows.
+fn field_of(k: usize, windows: usize) -> usize
+    requires { ⌜ k < 12 ⌝ }
+    ensures { λ r. ⌜ r < 12 ⌝ }
+{
+    match windows {
+        1 => k / 3,
+        2 => 2 * (k / 3) + k % 3,
+        _ => k,
+    }
+}
+
+// The cells of a sheet body, seat by seat and within a seat window by window.
+pub fn cells_in(body: &[u8], seats: usize, windows: usize) -> [u16; 12] {
+    let mut cells = [0u16; 12];
+    for k in 0..12usize {
+        if (k / 3 < seats) & (k % 3 < windows) {
+            let at = 2 * field_of(k, windows);
+            cells[k] = byte(body, at) as u16 + 256 * byte(body, at + 1) as u16;
+        }
+    }
+    cells
 }

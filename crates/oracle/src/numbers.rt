@@ -7,6 +7,12 @@ pub fn wide(x: u16) -> u32
     x as u32
 }
 
+pub fn long(x: u32) -> u64
+    ensures { λ r. ⌜ r ≤ 4294967295 ⌝ }
+{
+    x as u64
+}
+
 // The product of a weight, or of two weights, with one more.
 pub fn multiply(a: u32, weight: u32) -> u32
     requires { ⌜ (a ≤ 1000000) × (weight ≤ 1000) ⌝ }
