@@ -2,17 +2,17 @@
  *
  * A day file holds a book (the seats' classes, the windows' supplies, a cap for each seat in each window, and perhaps the seat that comes
  * first today, a balance for each seat, which is what it received on earlier days, and its own weight for each class) and perhaps a sheet
- * (credits for each seat in each window). The calls read one, write one, mark its sheet, plan the fairest sheet, list it as text, and
- * choose the better of two sheets of a book. What each call does is proved for every file, every book and every buffer; the contracts are
- * in crates/credits/specs/Calls.antt.
+ * (credits for each seat in each window). The calls read one, write one, mark its sheet, plan the fairest sheet, list it as text, choose
+ * the better of two sheets of a book, and find a sheet with wanted totals. What each call does is proved for every file, every book and
+ * every buffer; the contracts are in crates/credits/specs/Calls.antt.
  *
  * What a caller owes, for every call:
  *   - A pointer points to as many bytes as the length after it says. They may be read, and written where it is not const. With length 0
  *     it may be NULL.
  *   - The bytes that a call writes overlap nothing that it reads.
  *   - 32 KB of stack.
- * Nothing else is asked: any bytes may be handed in as a file, and any numbers as a book. Every call ends. None allocates, prints or stops
- * the program. Results have padding, so they are to be compared field by field.
+ * Nothing else is asked: any bytes may be handed in as a file or as a row of wanted totals, and any numbers as a book. Every call ends.
+ * None allocates, prints or stops the program. Results have padding, so they are to be compared field by field.
  *
  * Threads: the library has no global state. Calls may run at once where none writes what another reads or writes.
  */
@@ -29,6 +29,7 @@ extern "C" {
 #define CREDITS_SEATS 32         /* the most seats */
 #define CREDITS_WINDOWS 24       /* the most windows */
 #define CREDITS_FILE_MAX 3310    /* the longest day file, in bytes: room for any file that is planned or written */
+#define CREDITS_SHEET_MAX 1536   /* the longest sheet body, in bytes: room for any that credits_fulfil writes */
 #define CREDITS_MOVES_MAX 93     /* what credits_mark asks of its buffer, in bytes */
 #define CREDITS_LISTING_MAX 3453 /* what credits_listing asks of its buffer, in bytes */
 
@@ -54,6 +55,7 @@ enum {
     CREDITS_REFUSED_NO_SHEET = 13,      /* mark, better: no sheet                               0 */
     CREDITS_REFUSED_ABOVE_CAP = 14,     /* mark, better: cell above its cap                     that cell */
     CREDITS_REFUSED_ABOVE_SUPPLY = 15,  /* mark, better: window's cells above its supply        that supply */
+    CREDITS_REFUSED_WANTED_LENGTH = 21, /* fulfil: wanted totals: not 4 x seats bytes           0 */
     CREDITS_REFUSED_BUFFER = 16,        /* the buffer is too short                              length needed */
     CREDITS_REFUSED_OTHER_BOOK = 17     /* better: the books differ, see credits_better         0 */
 };
@@ -120,6 +122,14 @@ typedef struct {
     size_t length; /* and how many bytes it has */
 } credits_better_result;
 
+/* Where there is a sheet, group is 0; where there is a group, length is 0. */
+typedef struct {
+    uint32_t refusal;
+    size_t offset;
+    size_t length;  /* of the sheet body that now stands at the front of the buffer: 2 x seats x windows */
+    uint32_t group; /* the seats that together want more than they can get: the lowest bit is seat 1, the highest seat 32 */
+} credits_fulfil_result;
+
 /* At a refusal no byte of a buffer changes. The bytes after what a call writes keep their values. */
 
 /* The book and the sheet of a day file. Refusals 1 to 12, then 18 to 20. */
@@ -149,6 +159,16 @@ credits_write_result credits_listing(const uint8_t *file, size_t file_len, uint8
  * files may be the same bytes in memory. Refusals 1 to 12, then 18 to 20, then 13 to 15 of the first file, then those of the second, then
  * 17. */
 credits_better_result credits_better(const uint8_t *first, size_t first_len, const uint8_t *second, size_t second_len);
+
+/* A lawful sheet that gives every seat just the total that is wanted for it, or, where there is none, a group of seats that wants more
+ * than it can get: more than the sum over the windows of the lesser of the supply and the group's caps there added together. `wanted` is a
+ * row of one total for each seat, four bytes each, low byte first; every number is taken. The sheet goes as a sheet body to the front of
+ * `out`: two bytes for each cell, low byte first, seat by seat and within a seat window by window. A group writes nothing, but `out` must
+ * have room for the sheet body all the same. Which of several sheets or groups is given is left open. Cells of a sheet that the file holds
+ * are neither used nor checked, and classes, first seat, balances and weights do not matter. Refusals 1 to 12, then 18 to 20, then 21, then
+ * 16. */
+credits_fulfil_result credits_fulfil(const uint8_t *file, size_t file_len, const uint8_t *wanted, size_t wanted_len, uint8_t *out,
+                                     size_t out_len);
 
 #ifdef __cplusplus
 }
