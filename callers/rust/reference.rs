@@ -11,6 +11,8 @@ mod better;
 mod day_file;
 #[path = "reference/exchange.rs"]
 mod exchange;
+#[path = "reference/fulfil.rs"]
+mod fulfil;
 #[path = "reference/listing.rs"]
 mod listing;
 #[path = "reference/marker.rs"]
@@ -29,6 +31,7 @@ mod tests;
 
 pub use better::{better, choose, Better, PairRefusal};
 pub use day_file::{read, write, Layout};
+pub use fulfil::{fulfil, fulfil_by, sheet_or_group, Fulfilled, Wants};
 pub use listing::listing;
 pub use marker::{feasible, mark, Marked};
 pub use planner::{plan, settled_sheet};

@@ -73,7 +73,7 @@ fn levels_are_compared_exactly_and_from_the_lowest() {
 }
 
 /// A file for each line that a single file can meet, with the line's number and the offset of the refusal.
-fn refused_files() -> [(u32, Vec<u8>, usize); 18] {
+pub(super) fn refused_files() -> [(u32, Vec<u8>, usize); 18] {
     let with_sheet = |rows: &[&[u16]]| file_of(&k8(), Some(&grid(rows)));
     // The sheet is above the caps too, which comes later.
     let mut no_seat = file_of(&first_is(k8(), 1), Some(&[[9; WINDOWS]; SEATS]));

@@ -10,10 +10,10 @@ use super::*;
 
 #[path = "../rng.rs"]
 mod rng;
-use rng::Rng;
+pub(super) use rng::Rng;
 
 /// A book with few feasible sheets.
-fn small_book(rng: &mut Rng) -> Book {
+pub(super) fn small_book(rng: &mut Rng) -> Book {
     let mut book = Book::empty(rng.between(1, 4), rng.between(1, 3));
     let classes = if rng.once_in(3) { 8 } else { 2 };
     let most = rng.between(1, 4);
@@ -63,7 +63,7 @@ fn columns(book: &Book, window: usize) -> Vec<Vec<u16>> {
 }
 
 /// Every feasible sheet, or none if there are too many to try.
-fn feasible_sheets(book: &Book) -> Option<Vec<Sheet>> {
+pub(super) fn feasible_sheets(book: &Book) -> Option<Vec<Sheet>> {
     let columns: Vec<_> = (0..book.windows).map(|window| columns(book, window)).collect();
     if columns.iter().map(Vec::len).product::<usize>() > 20_000 {
         return None;

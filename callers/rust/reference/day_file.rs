@@ -252,7 +252,8 @@ fn write_row(row: &[u16], out: &mut [u8]) {
     }
 }
 
-fn write_grid(grid: &Grid, book: &Book, out: &mut [u8]) {
+/// Writes the used cells of a grid, seat by seat and within a seat window by window.
+pub fn write_grid(grid: &Grid, book: &Book, out: &mut [u8]) {
     for (row, out) in grid[..book.seats].iter().zip(out.chunks_exact_mut(2 * book.windows)) {
         write_row(&row[..book.windows], out);
     }
