@@ -1,4 +1,4 @@
-/* Plans, marks, reads, writes, lists and compares day files by libcredits, and checks all that it sees.
+/* Plans, marks, reads, writes, lists and compares day files and fulfils wanted totals by libcredits, and checks all that it sees.
  *
  *     example FOLDER       FOLDER is examples/ of this repository
  *
@@ -43,6 +43,11 @@ static_assert(offsetof(credits_better_result, file) == 16, "file");
 static_assert(offsetof(credits_better_result, start) == 24, "start");
 static_assert(offsetof(credits_better_result, length) == 32, "length of a better result");
 static_assert(sizeof(credits_better_result) == 40, "credits_better_result");
+static_assert(offsetof(credits_fulfil_result, offset) == 8, "offset of a fulfil result");
+static_assert(offsetof(credits_fulfil_result, length) == 16, "length of a fulfil result");
+static_assert(offsetof(credits_fulfil_result, group) == 24, "group");
+static_assert(sizeof(credits_fulfil_result) == 32, "credits_fulfil_result");
+static_assert(CREDITS_SHEET_MAX == 2 * CREDITS_SEATS * CREDITS_WINDOWS, "CREDITS_SHEET_MAX");
 
 static int checks = 0;
 
@@ -145,7 +150,8 @@ static const char *const examples[] = {"k01", "k02", "k03",  "k04",  "k05", "k06
                                        "k09", "k10a", "k10b", "k11", "k12", "full-alone", "full-fixed", "full-ladder",
                                        "pair-a", "pair-b", "first-k03", "first-k04", "first-three", "full-first",
                                        "standard", "balances-k05", "balances-k05b", "balances-three", "full-balances",
-                                       "weights-k05", "weights-k05b", "weights-k06", "weights-three", "weights-close", "full-weights"};
+                                       "weights-k05", "weights-k05b", "weights-k06", "weights-three", "weights-close", "full-weights",
+                                       "wanted-four", "wanted-given", "wanted-same"};
 
 static void try_example(const char *folder, const char *name) {
     bytes file = load(folder, name, ".day");
@@ -284,9 +290,9 @@ static int turned_away(credits_better_result r, uint32_t number, size_t offset, 
 static void try_better(const char *folder, const char *name) {
     bytes file = load(folder, name, ".day"), plan = planned(file), moves = block(CREDITS_MOVES_MAX);
     credits_mark_result m = credits_mark(file.at, file.length, moves.at, moves.length);
-    if (m.refusal == CREDITS_REFUSED_NO_SHEET) {
-        CHECK(turned_away(better(file, plan), CREDITS_REFUSED_NO_SHEET, 0, 1));
-        CHECK(turned_away(better(plan, file), CREDITS_REFUSED_NO_SHEET, 0, 2));
+    if (m.refusal != CREDITS_OK) { /* it has no sheet, or one that is not lawful */
+        CHECK(turned_away(better(file, plan), m.refusal, m.offset, 1));
+        CHECK(turned_away(better(plan, file), m.refusal, m.offset, 2));
     } else {
         int passes = m.mark == CREDITS_TIED || m.mark == CREDITS_SETTLED;
         CHECK(passes ? chosen(better(file, plan), 1, file) : chosen(better(file, plan), 2, plan));
@@ -489,6 +495,135 @@ static void try_built_in_weights(const char *folder) {
     free(k06.at);
 }
 
+/* ---- from wanted totals to a sheet */
+
+/* A row of wanted totals, four bytes each, low byte first. */
+static bytes row_of(const uint32_t *wants, size_t seats) {
+    bytes row = block(4 * seats);
+    for (size_t i = 0; i < 4 * seats; i++) row.at[i] = (uint8_t)(wants[i / 4] >> 8 * (i % 4));
+    return row;
+}
+
+static credits_fulfil_result fulfil(bytes file, bytes row, bytes out) {
+    return credits_fulfil(file.at, file.length, row.at, row.length, out.at, out.length);
+}
+
+/* The book with the sheet whose body is at the front of the buffer. */
+static credits_book with_body(credits_book book, bytes body) {
+    book.has_sheet = 1;
+    for (size_t i = 0; i < book.seats; i++)
+        for (size_t w = 0; w < book.windows; w++) {
+            size_t at = 2 * (i * book.windows + w);
+            book.sheet[i][w] = (uint16_t)(body.at[at] + 256 * body.at[at + 1]);
+        }
+    return book;
+}
+
+/* Whether the seats of a group want more than they can get. */
+static int wants_too_much(const credits_book *book, const uint32_t *wants, uint32_t group) {
+    uint64_t wanted = 0, can_get = 0;
+    for (size_t i = 0; i < book->seats; i++) wanted += group >> i & 1 ? wants[i] : 0;
+    for (size_t w = 0; w < book->windows; w++) {
+        uint64_t caps = 0;
+        for (size_t i = 0; i < book->seats; i++) caps += group >> i & 1 ? book->caps[i][w] : 0;
+        can_get += caps < book->supplies[w] ? caps : book->supplies[w];
+    }
+    return can_get < wanted;
+}
+
+/* The mark of a lawful sheet. */
+static uint32_t mark_of(credits_book book) {
+    bytes file = written(book), moves = block(CREDITS_MOVES_MAX);
+    credits_mark_result m = credits_mark(file.at, file.length, moves.at, moves.length);
+    CHECK(m.refusal == CREDITS_OK);
+    free(moves.at);
+    free(file.at);
+    return m.mark;
+}
+
+/* A sheet body comes, and the bytes after it are kept. Gives the book with that sheet, which is lawful. */
+static credits_book fulfilled(bytes file, const uint32_t *wants) {
+    credits_book book = book_in(file);
+    size_t length = 2 * book.seats * book.windows;
+    bytes row = row_of(wants, book.seats), out = block(length + 5);
+    credits_fulfil_result r = fulfil(file, row, out);
+    CHECK(r.refusal == CREDITS_OK && r.offset == 0 && r.length == length && r.group == 0 && untouched(out, length));
+    book = with_body(book, out);
+    for (size_t i = 0; i < book.seats; i++) CHECK(total(&book, i) == wants[i]);
+    CHECK(mark_of(book) != 0);
+    free(out.at);
+    free(row.at);
+    return book;
+}
+
+/* A group comes, and the buffer is left as it was. It has seats of the book only, and wants more than it can get. */
+static uint32_t overasked(bytes file, const uint32_t *wants) {
+    credits_book book = book_in(file);
+    bytes row = row_of(wants, book.seats), out = block(2 * book.seats * book.windows);
+    credits_fulfil_result r = fulfil(file, row, out);
+    CHECK(r.refusal == CREDITS_OK && r.offset == 0 && r.length == 0 && untouched(out, 0));
+    CHECK(r.group != 0 && (uint64_t)r.group >> book.seats == 0 && wants_too_much(&book, wants, r.group));
+    free(out.at);
+    free(row.at);
+    return r.group;
+}
+
+/* A lawful sheet with the plan's totals is settled, as the plan is. With a credit more for any one seat there is no such sheet. */
+static void try_planned_totals(const char *folder, const char *name) {
+    bytes file = load(folder, name, ".day"), plan = planned(file);
+    credits_book fair = book_in(plan);
+    uint32_t wants[CREDITS_SEATS] = {0};
+    for (size_t i = 0; i < fair.seats; i++) wants[i] = (uint32_t)total(&fair, i);
+    CHECK(mark_of(fulfilled(file, wants)) == CREDITS_SETTLED);
+    for (size_t i = 0; i < fair.seats; i++) {
+        wants[i]++;
+        overasked(file, wants);
+        wants[i]--;
+    }
+    printf("%-14s its planned totals: a sheet; one credit more: a group\n", name);
+    free(plan.at);
+    free(file.at);
+}
+
+/* K8 has one credit in window 1, for seats 1 and 2, and three in window 2, two of them for seat 2 and all for seat 3. Each of the rows has
+ * one reply only. */
+static void try_wanted(const char *folder) {
+    static const struct {
+        uint32_t wants[3], group;
+    } rows[] = {{{1, 2, 1}, 0}, {{0, 0, 0}, 0}, {{0, 3, 1}, 0}, {{2, 0, 0}, 1}, {{1, 3, 0}, 3}, {{0, 0, 4}, 4}, {{1, 1, 3}, 7}};
+    static const uint32_t huge[] = {0, UINT32_MAX, 0}, halves[] = {0x80000000, 0x80000000, 0}; /* added up in 32 bits the halves give 0 */
+    bytes file = load(folder, "k08", ".day"), row = row_of(rows[0].wants, 3), out = block(12);
+    for (size_t k = 0; k < sizeof rows / sizeof rows[0]; k++) {
+        const uint32_t *wants = rows[k].wants;
+        if (rows[k].group == 0)
+            fulfilled(file, wants);
+        else
+            CHECK(overasked(file, wants) == rows[k].group);
+        printf("k08 with %u %u %u wanted: %s\n", wants[0], wants[1], wants[2], rows[k].group == 0 ? "a sheet" : "a group");
+    }
+    CHECK(overasked(file, huge) & 2 && overasked(file, halves) & 3);
+    CHECK(fulfil(file, row, out).length == 12 && memcmp(out.at, "\1\0\0\0\0\0\2\0\0\0\1\0", 12) == 0);
+    free(out.at);
+    free(row.at);
+    free(file.at);
+}
+
+/* Two books with the same supplies and caps, of which one has no sheet, and the other one that is not lawful and all else different. Either
+ * row has one reply only. */
+static void try_what_counts(const char *folder) {
+    static const char *const names[] = {"wanted-four", "wanted-same"};
+    static const uint16_t cells[4][3] = {{3, 2, 0}, {3, 0, 2}, {0, 2, 1}, {0, 0, 4}};
+    static const uint32_t wants[] = {5, 5, 3, 4}, more[] = {5, 5, 4, 4};
+    for (size_t k = 0; k < 2; k++) {
+        bytes file = load(folder, names[k], ".day");
+        credits_book book = fulfilled(file, wants);
+        for (size_t i = 0; i < 4; i++) CHECK(memcmp(book.sheet[i], cells[i], sizeof cells[i]) == 0);
+        CHECK(overasked(file, more) == 7);
+        printf("%s with 5 5 3 4 wanted: its only sheet; with 5 5 4 4: seats 1 2 3\n", names[k]);
+        free(file.at);
+    }
+}
+
 /* ---- refusals, which leave every buffer as it was */
 
 static int refused(credits_write_result r, uint32_t number, size_t offset) {
@@ -673,6 +808,35 @@ static void try_number_of_weights(const char *folder) {
     free(file.at);
 }
 
+static int unfulfilled(credits_fulfil_result r, uint32_t number, size_t offset) {
+    return r.refusal == number && r.offset == offset && r.length == 0 && r.group == 0;
+}
+
+/* The file's refusals come first, then that of the row, then that of the buffer, whether there would be a sheet or a group. */
+static void try_refused_wants(const char *folder) {
+    static const uint32_t few[] = {1, 2, 1}, many[] = {9, 9, 9};
+    static const size_t lengths[] = {0, 1, 4, 8, 11, 13, 16, 128};
+    bytes file = load(folder, "k08", ".day"), none = {NULL, 0}, out = block(12), little = block(11);
+    bytes rows[] = {row_of(few, 3), row_of(many, 3)};
+    for (size_t k = 0; k < 2; k++) {
+        CHECK(unfulfilled(fulfil(file, rows[k], little), CREDITS_REFUSED_BUFFER, 12) && untouched(little, 0));
+        CHECK(unfulfilled(fulfil(file, rows[k], none), CREDITS_REFUSED_BUFFER, 12));
+        CHECK(unfulfilled(fulfil(none, rows[k], none), CREDITS_REFUSED_SHORT, 0));
+    }
+    for (size_t k = 0; k < sizeof lengths / sizeof lengths[0]; k++) {
+        bytes row = block(lengths[k]);
+        CHECK(unfulfilled(fulfil(file, row, out), CREDITS_REFUSED_WANTED_LENGTH, 0) && untouched(out, 0));
+        CHECK(unfulfilled(fulfil(file, row, none), CREDITS_REFUSED_WANTED_LENGTH, 0));
+        free(row.at);
+    }
+    printf("wanted totals: refused by the file, by a row of another length, and by a short buffer\n");
+    free(rows[1].at);
+    free(rows[0].at);
+    free(little.at);
+    free(out.at);
+    free(file.at);
+}
+
 static void try_books(const char *folder) {
     bytes file = load(folder, "k08", ".day"), out = block(CREDITS_FILE_MAX);
     credits_book book = book_in(file);
@@ -709,6 +873,10 @@ int main(int argc, char **argv) {
     expect_shares("highest", highest);
     try_weights(folder);
     try_built_in_weights(folder);
+    for (size_t i = 0; i < sizeof examples / sizeof examples[0]; i++) try_planned_totals(folder, examples[i]);
+    try_wanted(folder);
+    try_what_counts(folder);
+    try_refused_wants(folder);
     try_refused_pairs(folder);
     try_refused_files(folder);
     try_wrong_first(folder);

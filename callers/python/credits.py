@@ -1,10 +1,11 @@
-"""libcredits for Python, by ctypes: read, write, mark, plan, list and compare day files. include/credits.h says what each call does."""
+"""libcredits for Python, by ctypes: read, write, mark, plan, list and compare day files, and fulfil wanted totals. include/credits.h says
+what each call does."""
 import ctypes
 import os
 from typing import NamedTuple
 
 SEATS, WINDOWS, CLASSES = 32, 24, 8
-FILE_MAX, MOVES_MAX, LISTING_MAX = 3310, 93, 3453
+FILE_MAX, SHEET_MAX, MOVES_MAX, LISTING_MAX = 3310, 1536, 93, 3453
 WASTEFUL, IMPROVABLE, TIED, SETTLED = 1, 2, 3, 4
 
 Row = ctypes.c_uint16 * WINDOWS
@@ -67,6 +68,10 @@ class Book(ctypes.Structure):
     def total(self, seat):
         return sum(self.sheet[seat][:self.windows])
 
+    def can_get(self, group):
+        """What a group of seats, counted from 1, can get: over the windows the lesser of the supply and the group's caps added together."""
+        return sum(min(self.supplies[window], sum(self.caps[seat - 1][window] for seat in group)) for window in range(self.windows))
+
 
 class ReadResult(ctypes.Structure):
     _fields_ = [('refusal', ctypes.c_uint32), ('offset', ctypes.c_size_t), ('book', Book)]
@@ -86,6 +91,10 @@ class BetterResult(ctypes.Structure):
                 ('start', ctypes.c_size_t), ('length', ctypes.c_size_t)]
 
 
+class FulfilResult(ctypes.Structure):
+    _fields_ = [('refusal', ctypes.c_uint32), ('offset', ctypes.c_size_t), ('length', ctypes.c_size_t), ('group', ctypes.c_uint32)]
+
+
 def declare(path):
     """The library at a path, with the types of its calls."""
     library = ctypes.CDLL(path)
@@ -94,7 +103,8 @@ def declare(path):
     for name, arguments, result in (
             ('credits_read', given, ReadResult), ('credits_write', [Book] + lent, WriteResult),
             ('credits_mark', given + lent, MarkResult), ('credits_plan', given + lent, WriteResult),
-            ('credits_listing', given + lent, WriteResult), ('credits_better', given + given, BetterResult)):
+            ('credits_listing', given + lent, WriteResult), ('credits_better', given + given, BetterResult),
+            ('credits_fulfil', given + given + lent, FulfilResult)):
         call = getattr(library, name)
         call.argtypes, call.restype = arguments, result
     return library
@@ -131,6 +141,13 @@ class Better(NamedTuple):
     """The file that is chosen, 1 or 2, and its sheet body: not a copy, but a view of that part of the file."""
     file: int
     body: memoryview
+
+
+class Fulfilled(NamedTuple):
+    """A lawful sheet with just the wanted totals, as a list of cells for each seat; or a group of seats, counted from 1, that wants more
+    than it can get. The other is None."""
+    sheet: list
+    group: list
 
 
 def buffer(length):
@@ -177,3 +194,21 @@ def better(first, second):
     """Of two day files of one book the one whose sheet has the higher list, and on equal lists the first."""
     b = accepted(LIBRARY.credits_better(first, len(first), second, len(second)))
     return Better(b.file, memoryview((first, second)[b.file - 1])[b.start:b.start + b.length])
+
+
+def wanted_row(wanted):
+    """Wanted totals as bytes, four for each, low byte first."""
+    if not all(0 <= want < 1 << 32 for want in wanted):
+        raise ValueError(f'{wanted} in four bytes each')
+    return b''.join(want.to_bytes(4, 'little') for want in wanted)
+
+
+def fulfil(file, wanted):
+    """A sheet of a day file's book with just the wanted totals, one for each seat; or, where there is none, a group that wants too much."""
+    row, out = wanted_row(wanted), buffer(SHEET_MAX)
+    f = accepted(LIBRARY.credits_fulfil(file, len(file), row, len(row), out, SHEET_MAX))
+    if f.group:
+        return Fulfilled(None, [seat + 1 for seat in range(SEATS) if f.group >> seat & 1])
+    cells = [low + 256 * high for low, high in zip(out[:f.length:2], out[1:f.length:2])]
+    windows = len(cells) // len(wanted)
+    return Fulfilled([cells[windows * seat:][:windows] for seat in range(len(wanted))], None)

@@ -1,4 +1,5 @@
-"""Plans, marks, reads, writes, lists and compares the day files of a folder (examples/ of this repository), and checks all that it sees.
+"""Plans, marks, reads, writes, lists and compares the day files of a folder (examples/ of this repository), fulfils wanted totals, and
+checks all that it sees.
 
     python3 callers/python/example.py [FOLDER]
 """
@@ -163,6 +164,60 @@ def try_weights():
     print('weights out of bounds or not rising: refused')
 
 
+def with_sheet(book, sheet):
+    """The day file of the book with that sheet."""
+    book.has_sheet = 1
+    for row, cells in zip(book.sheet, sheet):
+        row[:len(cells)] = cells
+    return credits.write(book)
+
+
+def check_group(book, wants, group):
+    assert group and all(1 <= seat <= book.seats for seat in group)
+    assert sum(wants[seat - 1] for seat in group) > book.can_get(group)
+
+
+def try_planned_totals(day):
+    """A lawful sheet with the plan's totals is settled, as the plan is. With a credit more for any one seat there is no such sheet."""
+    file = day.read_bytes()
+    fair = credits.read(credits.plan(file))
+    totals = [fair.total(i) for i in range(fair.seats)]
+    sheet, group = credits.fulfil(file, totals)
+    assert group is None and [sum(row) for row in sheet] == totals
+    assert credits.mark(with_sheet(credits.read(file), sheet)).mark == credits.SETTLED
+    for seat in range(fair.seats):
+        wants = totals[:seat] + [totals[seat] + 1] + totals[seat + 1:]
+        sheet, group = credits.fulfil(file, wants)
+        assert sheet is None
+        check_group(fair, wants, group)
+
+
+def try_wanted():
+    """Wanted totals of which each row has one reply only; then huge ones, and rows and buffers that are refused."""
+    file = (FOLDER / 'k08.day').read_bytes()
+    for wants, sheet, group in (([1, 2, 1], [[1, 0], [0, 2], [0, 1]], None), ([0, 3, 1], [[0, 0], [1, 2], [0, 1]], None),
+                                ([2, 0, 0], None, [1]), ([1, 3, 0], None, [1, 2]), ([1, 1, 3], None, [1, 2, 3])):
+        assert credits.fulfil(file, wants) == (sheet, group)
+        print('k08 with', *wants, 'wanted:', f'the sheet {sheet}' if sheet else f'the group {group}')
+    # the same supplies and caps, and all else different
+    for day in (FOLDER / 'wanted-four.day', FOLDER / 'wanted-same.day'):
+        assert credits.fulfil(day.read_bytes(), [5, 5, 3, 4]) == ([[3, 2, 0], [3, 0, 2], [0, 2, 1], [0, 0, 4]], None)
+        assert credits.fulfil(day.read_bytes(), [5, 5, 4, 4]) == (None, [1, 2, 3])
+    for wants in ([2 ** 32 - 1, 0, 0], [2 ** 31, 2 ** 31, 0]):
+        check_group(credits.read(file), wants, credits.fulfil(file, wants).group)
+    for wants in ([], [1, 2], [1, 2, 1, 0], [0] * 32):
+        assert refusal(credits.fulfil, file, wants) == (21, 0)
+        assert refusal(credits.fulfil, file[:-1], wants) == (6, 59)
+    for wants in ([1, 2, 1], [9, 9, 9]):
+        row, out = credits.wanted_row(wants), credits.buffer(11)
+        out[:] = [0xee] * 11
+        f = credits.LIBRARY.credits_fulfil(file, len(file), row, len(row), out, len(out))
+        assert (f.refusal, f.offset, f.length, f.group) == (16, 12, 0, 0) and bytes(out) == b'\xee' * 11
+    f = credits.LIBRARY.credits_fulfil(file, len(file), None, 0, None, 0)
+    assert (f.refusal, f.offset, f.length, f.group) == (21, 0, 0, 0)
+    print('wanted totals for other numbers of seats, and short buffers: refused')
+
+
 def try_refusals():
     k11 = (FOLDER / 'k11.day').read_bytes()
     for file, number, offset in ((b'', 1, 0), (k11[:-1], 6, 25), (k11 + b'\0', 6, 27)):
@@ -190,5 +245,9 @@ try_better()
 try_first_seats()
 try_balances()
 try_weights()
+for d in days:
+    try_planned_totals(d)
+print('planned totals of', len(days), 'examples: a sheet each; one credit more: a group')
+try_wanted()
 try_refusals()
 print('Python: all checks passed')

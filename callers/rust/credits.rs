@@ -1,6 +1,6 @@
 //! The library's calls for Rust: slices in, `Result` out.
 //!
-//! Seats and windows count from 1 in marks and moves, as in the files, and from 0 in the arrays of a [`Book`].
+//! Seats and windows count from 1 in marks, moves and groups, as in the files, and from 0 in the arrays of a [`Book`].
 //! Link with `-L native=target/staticlib -l static=credits`, which `bin/library` builds.
 #![allow(dead_code)]
 
@@ -19,6 +19,9 @@ pub const WINDOWS: usize = 24;
 
 /// The longest day file; a buffer of this length takes every file that [`write`] and [`plan`] make.
 pub const FILE_LENGTH: usize = 3310;
+
+/// The longest sheet body.
+pub const SHEET_LENGTH: usize = 2 * SEATS * WINDOWS;
 
 /// The length that the marker asks of its buffer: 31 moves of three bytes.
 pub const MOVES_LENGTH: usize = 93;
@@ -75,6 +78,8 @@ pub enum Reason {
     Balances = 19,
     /// Checked after `Balances` and before `NoSheet`.
     Weights = 20,
+    /// Checked after `Weights` and before `ShortBuffer`.
+    WantedLength = 21,
 }
 
 /// A reason and the offset that belongs to it. No byte of any buffer has changed.
@@ -126,8 +131,18 @@ pub enum Mark {
     Settled,
 }
 
+/// What [`fulfil`] says of wanted totals.
+#[derive(Clone, Debug, PartialEq, Eq)]
+pub enum Fulfilled {
+    /// A lawful sheet of the book with just these totals. Entries that are not used are 0.
+    Sheet(Grid),
+    /// There is no such sheet: these seats together want more than they can get, which is, summed over the windows, the lesser of the
+    /// supply and their caps added together.
+    Group(Vec<u8>),
+}
+
 impl Reason {
-    const ALL: [Reason; 20] = [
+    const ALL: [Reason; 21] = [
         Reason::UnderTwoBytes,
         Reason::NumberOfEntries,
         Reason::EndsWithinContents,
@@ -148,6 +163,7 @@ impl Reason {
         Reason::FirstSeat,
         Reason::Balances,
         Reason::Weights,
+        Reason::WantedLength,
     ];
 
     /// The number in the table.
@@ -256,6 +272,29 @@ pub fn better<'a>(first: &'a [u8], second: &'a [u8]) -> Result<Better<'a>, PairR
     unless_refused(result.refusal, result.offset)
         .map_err(|refusal| PairRefusal { file: (result.file != 0).then_some(which), refusal })?;
     Ok(Better { file: which, body: &file[result.start..][..result.length] })
+}
+
+/// Looks for a lawful sheet of a day file's book with just the wanted totals, one for each seat. A sheet that the file holds is not used.
+pub fn fulfil(file: &[u8], wanted: &[u32]) -> Result<Fulfilled, Refusal> {
+    let row: Vec<u8> = wanted.iter().flat_map(|want| want.to_le_bytes()).collect();
+    let mut body = [0; SHEET_LENGTH];
+    let result = raw::fulfil(file, &row, &mut body);
+    unless_refused(result.refusal, result.offset)?;
+    if result.group != 0 {
+        let members = (1..=SEATS as u8).filter(|seat| result.group >> (seat - 1) & 1 == 1);
+        return Ok(Fulfilled::Group(members.collect()));
+    }
+    Ok(Fulfilled::Sheet(grid_of(&body[..result.length], wanted.len())))
+}
+
+/// The cells of the sheet body of a book with so many seats, which is at least one.
+fn grid_of(body: &[u8], seats: usize) -> Grid {
+    let mut grid = [[0; WINDOWS]; SEATS];
+    for (row, bytes) in grid.iter_mut().zip(body.chunks_exact(body.len() / seats)) {
+        let cells = bytes.chunks_exact(2).map(|pair| u16::from_le_bytes([pair[0], pair[1]]));
+        row.iter_mut().zip(cells).for_each(|(cell, credits)| *cell = credits);
+    }
+    grid
 }
 
 /// `Err` for every number but 0.

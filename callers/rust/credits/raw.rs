@@ -66,16 +66,27 @@ pub struct BetterResult {
     pub length: usize,
 }
 
+/// The length of the sheet body that was written, or a group of seats, the lowest bit for seat 1. The other is 0; both are at a refusal.
+#[derive(Clone, Copy, Debug, PartialEq, Eq)]
+#[repr(C)]
+pub struct FulfilResult {
+    pub refusal: u32,
+    pub offset: usize,
+    pub length: usize,
+    pub group: u32,
+}
+
 // The sizes that include/credits.h gives these structs on a 64-bit machine.
 const _: () = assert!(size_of::<Book>() == 3304 && size_of::<ReadResult>() == 3320);
 const _: () = assert!(offset_of!(Book, has_first) == 3204 && offset_of!(Book, first) == 3208);
 const _: () = assert!(offset_of!(Book, has_balances) == 3212 && offset_of!(Book, balances) == 3216);
 const _: () = assert!(offset_of!(Book, has_weights) == 3280 && offset_of!(Book, weights) == 3284);
 const _: () = assert!(size_of::<MarkResult>() == 32 && size_of::<WriteResult>() == 24);
-const _: () = assert!(size_of::<BetterResult>() == 40);
+const _: () = assert!(size_of::<BetterResult>() == 40 && size_of::<FulfilResult>() == 32);
+const _: () = assert!(offset_of!(FulfilResult, length) == 16 && offset_of!(FulfilResult, group) == 24);
 
 mod c {
-    use super::{BetterResult, Book, MarkResult, ReadResult, WriteResult};
+    use super::{BetterResult, Book, FulfilResult, MarkResult, ReadResult, WriteResult};
 
     extern "C" {
         pub fn credits_read(file: *const u8, file_len: usize) -> ReadResult;
@@ -85,6 +96,14 @@ mod c {
         pub fn credits_listing(file: *const u8, file_len: usize, out: *mut u8, out_len: usize) -> WriteResult;
         pub fn credits_better(first: *const u8, first_len: usize, second: *const u8, second_len: usize)
             -> BetterResult;
+        pub fn credits_fulfil(
+            file: *const u8,
+            file_len: usize,
+            wanted: *const u8,
+            wanted_len: usize,
+            out: *mut u8,
+            out_len: usize,
+        ) -> FulfilResult;
     }
 }
 
@@ -110,4 +129,10 @@ pub fn listing(file: &[u8], out: &mut [u8]) -> WriteResult {
 
 pub fn better(first: &[u8], second: &[u8]) -> BetterResult {
     unsafe { c::credits_better(first.as_ptr(), first.len(), second.as_ptr(), second.len()) }
+}
+
+/// The wanted totals as a row of four bytes for each seat, low byte first.
+pub fn fulfil(file: &[u8], wanted: &[u8], out: &mut [u8]) -> FulfilResult {
+    let (wanted, wanted_len) = (wanted.as_ptr(), wanted.len());
+    unsafe { c::credits_fulfil(file.as_ptr(), file.len(), wanted, wanted_len, out.as_mut_ptr(), out.len()) }
 }

@@ -1,5 +1,5 @@
-//! The wrapper against the library: paper 01's examples, the standard sheet, first seats, balances, weights, refusals, short and empty
-//! buffers, calls side by side.
+//! The wrapper against the library: paper 01's examples, the standard sheet, first seats, balances, weights, pairs, wanted totals,
+//! refusals, short and empty buffers, calls side by side.
 
 use super::*;
 
@@ -436,6 +436,75 @@ fn pairs_are_refused_first_file_first() {
 }
 
 #[test]
+fn wanted_totals_of_k8() {
+    let sheet = |rows: &[&[u16]]| Ok(Fulfilled::Sheet(grid(rows)));
+    let group = |seats: &[u8]| Ok(Fulfilled::Group(seats.to_vec()));
+    // Each of these rows has one reply only. The sheet in the file does not matter, nor whether it is lawful.
+    for file in [k8(None), k8(K8_SHEET), k8(Some(&[&[9, 9][..]; 3]))].map(|book| file_of(&book)) {
+        assert_eq!(fulfil(&file, &[1, 2, 1]), sheet(&[&[1, 0], &[0, 2], &[0, 1]]));
+        assert_eq!(fulfil(&file, &[0, 3, 1]), sheet(&[&[0, 0], &[1, 2], &[0, 1]]));
+        assert_eq!(fulfil(&file, &[0, 0, 0]), sheet(&[]));
+        assert_eq!(fulfil(&file, &[2, 0, 0]), group(&[1]));
+        assert_eq!(fulfil(&file, &[0, 0, 4]), group(&[3]));
+        assert_eq!(fulfil(&file, &[1, 3, 0]), group(&[1, 2]));
+        assert_eq!(fulfil(&file, &[1, 1, 3]), group(&[1, 2, 3]));
+    }
+    assert_eq!(fulfil(&K11, &[2]), Ok(Fulfilled::Sheet(grid(&[&[2]]))));
+    assert_eq!(fulfil(&K11, &[u32::MAX]), group(&[1]));
+}
+
+#[test]
+fn wanted_totals_of_the_largest_book() {
+    let large = book(&[4095; WINDOWS], &[&[4095; WINDOWS][..]; SEATS], None);
+    let file = file_of(&Book { classes: [8; SEATS], balances: Some([50_000; SEATS]), ..large });
+    let all = 24 * 4095;
+    for seat in 0..SEATS {
+        let mut wants = [0; SEATS];
+        wants[seat] = all;
+        let mut expected = grid(&[]);
+        expected[seat] = [4095; WINDOWS];
+        assert_eq!(fulfil(&file, &wants), Ok(Fulfilled::Sheet(expected)));
+        wants[seat] += 1;
+        let Ok(Fulfilled::Group(seats)) = fulfil(&file, &wants) else { panic!("a sheet of more than there is") };
+        assert!(seats.contains(&(seat as u8 + 1)));
+    }
+    let mut wants = [all / 32; SEATS];
+    wants[31] += all % 32;
+    let Ok(Fulfilled::Sheet(sheet)) = fulfil(&file, &wants) else { panic!("a group that can get what it wants") };
+    assert_eq!(sheet.map(|row| row.iter().map(|&cell| cell as u32).sum::<u32>()), wants);
+    assert!((0..WINDOWS).all(|window| sheet.iter().map(|row| row[window]).sum::<u16>() == 4095));
+    // A credit more than there is: only all seats together want too much.
+    wants[0] += 1;
+    assert_eq!(fulfil(&file, &wants), Ok(Fulfilled::Group((1..=32).collect())));
+}
+
+#[test]
+fn wanted_totals_refused() {
+    let file = file_of(&k8(K8_SHEET));
+    for wants in [&[][..], &[1], &[1, 2], &[1, 2, 1, 0], &[0; SEATS]] {
+        assert_eq!(fulfil(&file, wants), refused(Reason::WantedLength, 0));
+        assert_eq!(fulfil(&file[..59], wants), refused(Reason::FileEnd, 59));
+    }
+    let mut out = [0xee; 20];
+    let nothing = |refusal, offset| raw::FulfilResult { refusal, offset, length: 0, group: 0 };
+    let [few, many] = [[1, 2, 1], [1, 3, 0]].map(|wants| wants.map(u32::to_le_bytes).concat());
+    // The row comes before the buffer, and the buffer before the reply.
+    for length in [0, 1, 11, 13, 128] {
+        assert_eq!(raw::fulfil(&file, &[0; 128][..length], &mut out[..11]), nothing(21, 0));
+    }
+    for row in [&few, &many] {
+        assert_eq!(raw::fulfil(&file, row, &mut out[..11]), nothing(16, 12));
+        assert_eq!(raw::fulfil(&file, row, &mut []), nothing(16, 12));
+        assert_eq!(raw::fulfil(&[], row, &mut []), nothing(1, 0));
+    }
+    assert_eq!(raw::fulfil(&file, &many, &mut out), raw::FulfilResult { group: 3, ..nothing(0, 0) });
+    assert_eq!(out, [0xee; 20]);
+    assert_eq!(raw::fulfil(&file, &few, &mut out), raw::FulfilResult { length: 12, ..nothing(0, 0) });
+    assert_eq!(out[..12], [1, 0, 0, 0, 0, 0, 2, 0, 0, 0, 1, 0]);
+    assert_eq!(out[12..], [0xee; 8]);
+}
+
+#[test]
 fn calls_side_by_side() {
     let file = file_of(&k8(K8_SHEET));
     let expected = planned(&file);
@@ -445,6 +514,7 @@ fn calls_side_by_side() {
             assert_eq!(mark(&expected), Ok(Mark::Settled));
             assert!(!mark(&file).unwrap().passes());
             assert_eq!(better(&file, &expected).unwrap().file, Which::Second);
+            assert_eq!(fulfil(&file, &[1, 3, 0]), Ok(Fulfilled::Group(vec![1, 2])));
         }
     };
     std::thread::scope(|scope| (0..4).for_each(|_| drop(scope.spawn(work))));
