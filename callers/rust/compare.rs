@@ -1,11 +1,12 @@
 //! The library against the plain Rust version of reference.rs, on random and damaged files and books.
 //!
-//!   compare [N]   N files (200,000) through read, mark, plan and listing, N books through write, and N pairs of files through better
+//!   compare [N]   N files (200,000) through read, mark, plan and listing, N books through write, N pairs of files through better, and N
+//!                 files with rows of wanted totals through fulfil
 //!
-//! Output buffers of any length are compared whole, with bytes around them, and so are the planned files in them. What paper 01 leaves
-//! free is tested by its rules: a chain has the right ends and the right number of moves, all of them possible, and ends in a list that
-//! is higher (mark 2) or equal (mark 3). The first difference ends the run with status 1, and what it was met with is kept under
-//! target/compare.
+//! Output buffers of any length are compared whole, with bytes around them, and so are the planned files in them. What the papers leave
+//! free is tested by their rules: a chain has the right ends and the right number of moves, all of them possible, and ends in a list that
+//! is higher (mark 2) or equal (mark 3); a sheet for wanted totals is lawful and has just these totals, and a group wants more than it can
+//! get. The first difference ends the run with status 1, and what it was met with is kept under target/compare.
 
 use std::path::PathBuf;
 use std::process::ExitCode;
@@ -27,6 +28,8 @@ mod files;
 mod memory;
 #[path = "compare/pairs.rs"]
 mod pairs;
+#[path = "compare/wanted.rs"]
+mod wanted;
 
 use rng::Rng;
 
@@ -36,10 +39,10 @@ const FILES: usize = 200_000;
 const ENOUGH: usize = 20_000;
 
 /// What was met so far: refusals and marks by number, the ways to meet line 20, what first seats, balances, weights and the step to the
-/// standard sheet did to plans, and what came of pairs.
+/// standard sheet did to plans, what came of pairs and of wanted totals, and how long refused rows of these were.
 #[derive(Default)]
 pub struct Seen {
-    refusals: [usize; 21],
+    refusals: [usize; 22],
     line_20: [usize; calls::LINE_20.len()],
     marks: [usize; 5],
     longest_chain: u32,
@@ -48,6 +51,8 @@ pub struct Seen {
     weights: [usize; calls::WEIGHTS.len()],
     standards: [usize; calls::STANDARDS.len()],
     pairs: [usize; pairs::OUTCOMES.len()],
+    replies: [usize; wanted::REPLIES.len()],
+    lengths: [usize; wanted::LENGTHS.len()],
 }
 
 fn main() -> ExitCode {
@@ -60,7 +65,7 @@ fn main() -> ExitCode {
             return ExitCode::FAILURE;
         }
         if turn % number.div_ceil(10) == 0 {
-            println!("{turn} of {number} files and as many books and pairs: no difference");
+            println!("{turn} of {number} files and as many books, pairs and rows of wanted totals: no difference");
         }
     }
     report(&seen);
@@ -68,7 +73,9 @@ fn main() -> ExitCode {
         println!("compare: something never came up");
         return ExitCode::FAILURE;
     }
-    println!("compare: {number} files, {number} books and {number} pairs, no difference");
+    println!(
+        "compare: {number} files, {number} books, {number} pairs and {number} rows of wanted totals, no difference"
+    );
     ExitCode::SUCCESS
 }
 
@@ -76,7 +83,7 @@ impl Seen {
     fn lacks_something(&self) -> bool {
         let counts = self.refusals[1..].iter().chain(&self.line_20).chain(&self.marks[1..]);
         let counts = counts.chain(&self.first_seats).chain(&self.balances).chain(&self.weights);
-        let counts = counts.chain(&self.standards).chain(&self.pairs);
+        let counts = counts.chain(&self.standards).chain(&self.pairs).chain(&self.replies).chain(&self.lengths);
         counts.copied().min() == Some(0)
     }
 }
@@ -86,7 +93,7 @@ fn report(seen: &Seen) {
         let counted = names.iter().zip(counts).map(|(name, count)| format!("{name} {count}"));
         counted.collect::<Vec<_>>().join(", ")
     };
-    println!("refusals by number, 1 to 20: {:?}", &seen.refusals[1..]);
+    println!("refusals by number, 1 to 21: {:?}", &seen.refusals[1..]);
     println!("files refused by 20: {}", by_name(&calls::LINE_20, &seen.line_20));
     println!("marks by number: {:?}, the longest chain with {} moves", &seen.marks[1..], seen.longest_chain);
     println!("planned: {}", by_name(&calls::FIRST_SEATS, &seen.first_seats));
@@ -94,9 +101,12 @@ fn report(seen: &Seen) {
     println!("planned: {}", by_name(&calls::WEIGHTS, &seen.weights));
     println!("standard sheets: {}", by_name(&calls::STANDARDS, &seen.standards));
     println!("pairs: {}", by_name(&pairs::OUTCOMES, &seen.pairs));
+    println!("wanted totals: {}", by_name(&wanted::REPLIES, &seen.replies));
+    println!("rows refused: {}", by_name(&wanted::LENGTHS, &seen.lengths));
 }
 
-/// One file through the calls that take a file, one book through the writer, and one pair through the call that takes two.
+/// One file through the calls that take a file, one book through the writer, one pair through the call that takes two, and one file with
+/// wanted totals.
 fn one_turn(rng: &mut Rng, seen: &mut Seen) -> Result<(), String> {
     let file = files::draw(rng);
     calls::all(rng, seen, &file).map_err(|difference| keep("differs.day", &file, difference))?;
@@ -107,6 +117,11 @@ fn one_turn(rng: &mut Rng, seen: &mut Seen) -> Result<(), String> {
     pairs::better(seen, &pair).map_err(|difference| {
         let difference = keep("differs_first.day", &pair[0], difference);
         keep("differs_second.day", &pair[1], difference)
+    })?;
+    let request = wanted::draw(rng);
+    wanted::fulfil(rng, seen, &request).map_err(|difference| {
+        let difference = keep("differs.day", &request.file, difference);
+        keep("differs.row", &request.row, difference)
     })
 }
 

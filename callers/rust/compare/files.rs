@@ -127,8 +127,13 @@ fn accepted(rng: &mut Rng) -> Vec<u8> {
         return LADDER.to_vec();
     }
     let book = book(rng);
-    let sheet = (!rng.once_in(6)).then(|| sheet(rng, &book));
-    file_of(&book, sheet.as_ref())
+    with_any_sheet(rng, &book)
+}
+
+/// The file of a book, mostly with a sheet.
+pub fn with_any_sheet(rng: &mut Rng, book: &Book) -> Vec<u8> {
+    let sheet = (!rng.once_in(6)).then(|| sheet(rng, book));
+    file_of(book, sheet.as_ref())
 }
 
 /// A file with bytes flipped, fields changed (the last ones, too, which may be the first seat, balances or weights), its end cut off or

@@ -115,7 +115,7 @@ fn any_day(rng: &mut Rng) -> Day {
     (book, sheet)
 }
 
-fn lawful(rng: &mut Rng, book: &Book) -> Sheet {
+pub fn lawful(rng: &mut Rng, book: &Book) -> Sheet {
     loop {
         let sheet = files::sheet(rng, book);
         if feasible(book, &sheet).is_ok() {
