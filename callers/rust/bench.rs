@@ -4,11 +4,12 @@
 //!   bench worst [N]   looks N seconds (60) for books that take long to plan
 //!   bench stack       how much stack each call uses
 //!
-//! Columns: "library" is the proved library, "plain Rust" a version in plain Rust that does the same: for plan and better the same
-//! method step by step (bench/same_method.rs, bench/same_standard.rs, bench/same_better.rs), for the other calls the version of
-//! reference.rs. "other method" is the planner of reference.rs, "settled alone" the plain Rust of the same method without its last part,
-//! which makes the settled sheet standard, and "max flow" a planner by maximum flow and bisection (bench/max_flow.rs), whose sheet is any
-//! settled one.
+//! Columns: "library" is the proved library, "plain Rust" a version in plain Rust that does the same: for plan, better and fulfil the same
+//! method step by step (bench/same_method.rs, bench/same_standard.rs, bench/same_better.rs, bench/same_fulfil.rs), for the other calls the
+//! version of reference.rs. "other method" is the call of reference.rs, "settled alone" the plain Rust of the same method without the last
+//! part of a plan, which makes the settled sheet standard, and "max flow" a planner by maximum flow and bisection (bench/max_flow.rs),
+//! whose sheet is any settled one. Beside fulfil stand the library's "plan" of the same book, and what that would take without the standard
+//! sheet, "settled plan" (bench/wanted.rs).
 
 use std::fmt::Write;
 use std::hint::black_box;
@@ -22,6 +23,8 @@ mod rng;
 mod max_flow;
 #[path = "bench/same_better.rs"]
 mod same_better;
+#[path = "bench/same_fulfil.rs"]
+mod same_fulfil;
 #[path = "bench/same_method.rs"]
 mod same_method;
 #[path = "bench/same_standard.rs"]
@@ -30,6 +33,8 @@ mod same_standard;
 mod stack;
 #[path = "bench/timing.rs"]
 mod timing;
+#[path = "bench/wanted.rs"]
+mod wanted;
 #[path = "bench/worst.rs"]
 mod worst;
 
@@ -72,10 +77,15 @@ fn all_tables() {
     weights_table(&mut csv);
     mark_table(&mut csv);
     better_table(&mut csv);
+    wanted::table(&mut csv);
     file_table(&mut csv);
     least_table(&mut csv);
-    growth_table(&mut csv, "seats", "plan by seats, 24 windows", (1..=8).map(|step| (4 * step, (4 * step, 24))));
-    growth_table(&mut csv, "windows", "plan by windows, 32 seats", (1..=8).map(|step| (3 * step, (32, 3 * step))));
+    let by_seats = || (1..=8).map(|step| (4 * step, (4 * step, 24)));
+    let by_windows = || (1..=8).map(|step| (3 * step, (32, 3 * step)));
+    growth_table(&mut csv, "seats", "plan by seats, 24 windows", by_seats());
+    growth_table(&mut csv, "windows", "plan by windows, 32 seats", by_windows());
+    wanted::growth_table(&mut csv, "fulfil seats", "fulfil by seats, 24 windows", by_seats());
+    wanted::growth_table(&mut csv, "fulfil windows", "fulfil by windows, 32 seats", by_windows());
     std::fs::create_dir_all("target").and_then(|()| std::fs::write("target/speed.csv", csv)).expect("target/speed.csv");
     println!("\nThe numbers are in target/speed.csv.");
 }
@@ -423,14 +433,16 @@ fn file_table(csv: &mut String) {
     line(csv, "file", "write", &names, &writing);
 }
 
-/// Planning, marking and choosing with the smallest books: what a call costs that has next to nothing to do.
+/// Planning, marking, choosing and fulfilling with the smallest books: what a call costs that has next to nothing to do.
 fn least_table(csv: &mut String) {
     let mut rng = Rng::new(17);
-    let (mut planning, mut marking, mut choosing) = (Times::default(), Times::default(), Times::default());
+    let [mut planning, mut marking, mut choosing, mut fulfilling] = [(); 4].map(|()| Times::default());
     for _ in 0..BOOKS {
         let book = books::dense(&mut rng, 1, 1);
         let file = file_of(&book, None);
         planning.add(side_by_side(&mut planners(&file)[..2], ROUNDS, 256));
+        let row = wanted::row_of(&book, &same_standard::totals(&planned(&book)));
+        fulfilling.add(side_by_side(&mut wanted::fulfillers(&file, &row)[..2], ROUNDS, 256));
         let file = file_of(&book, Some(&planned(&book)));
         marking.add(side_by_side(&mut markers(&file), ROUNDS, 256));
         choosing.add(side_by_side(&mut choosers(&file, &file.clone()), ROUNDS, 256));
@@ -440,4 +452,5 @@ fn least_table(csv: &mut String) {
     line(csv, "least", "plan", &names, &planning);
     line(csv, "least", "mark", &names, &marking);
     line(csv, "least", "better", &names, &choosing);
+    line(csv, "least", "fulfil", &names, &fulfilling);
 }

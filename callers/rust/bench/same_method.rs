@@ -33,9 +33,9 @@ pub fn counts(book: &Book) -> Counts {
 }
 
 /// A sheet in the making with the numbers that the method looks at.
-struct Desk<'a> {
+pub struct Desk<'a> {
     book: &'a Book,
-    grid: Sheet,
+    pub grid: Sheet,
     weights: [u64; SEATS],
     /// Per seat its place in the order of the day.
     positions: [usize; SEATS],
@@ -44,7 +44,7 @@ struct Desk<'a> {
     /// Per window the seats with room, and the seats with credits, of at least the unit.
     takers: [u32; WINDOWS],
     givers: [u32; WINDOWS],
-    turns: [usize; 3],
+    pub turns: [usize; 3],
 }
 
 /// The seats that a receiver reaches, itself included, and for each the window in which it gives and who takes.
@@ -89,12 +89,21 @@ impl<'a> Desk<'a> {
     }
 
     fn settled(book: &'a Book) -> Desk<'a> {
-        let mut desk = Desk::new(book);
-        desk.fill();
-        desk.turns[0] = desk.even_out(64);
-        desk.turns[1] = desk.even_out(1);
-        desk.turns[2] = desk.settle();
-        desk
+        Desk::new(book).run()
+    }
+
+    /// Settled with all weights equal, seats that start from these heights, and ties that go by seat number.
+    pub fn settled_from(book: &'a Book, heights: [u64; SEATS]) -> Desk<'a> {
+        let positions = std::array::from_fn(|seat| seat);
+        Desk { weights: [1; SEATS], positions, heights, ..Desk::new(book) }.run()
+    }
+
+    fn run(mut self) -> Desk<'a> {
+        self.fill();
+        self.turns[0] = self.even_out(64);
+        self.turns[1] = self.even_out(1);
+        self.turns[2] = self.settle();
+        self
     }
 
     /// Hands out every window, seat by seat up to each cap.
@@ -247,11 +256,22 @@ impl<'a> Desk<'a> {
 
     /// The exchange that the marker would write.
     fn exchange(&self) -> Option<(usize, usize)> {
+        let rooms = self.rooms();
+        self.search(&rooms, Self::improves).or_else(|| self.search(&rooms, Self::ties_wrongly))
+    }
+
+    /// Per seat the windows in which it has room.
+    fn rooms(&self) -> [u32; SEATS] {
         let mut rooms = [0; SEATS];
         for window in 0..self.book.windows {
             members(self.takers[window]).for_each(|seat| rooms[seat] |= 1 << window);
         }
-        self.search(&rooms, Self::improves).or_else(|| self.search(&rooms, Self::ties_wrongly))
+        rooms
+    }
+
+    /// The seats that a seat reaches on the settled sheet, itself included.
+    pub fn reached_by(&self, seat: usize) -> u32 {
+        self.reached(&self.rooms(), seat)
     }
 
     /// The first receiver that reaches a donor of this kind, and its lowest such donor.
