@@ -169,6 +169,12 @@ line15 f =
     andThen (entryOf f 4)
     (λ e. offset (cellAt f 1) (lowest (windowsIn f) (λ j. ltb (field f (cellAt f 1 j)) (placedIn f e j))))
 
+-- ---- wanted totals
+
+-- 21: row not 4 bytes per seat | 0
+unfoldable pub line21 : List ℕ → List ℕ → Option ℕ
+line21 f row = when (not (eqb (length row) (4 * seatsIn f))) 0
+
 -- ---- lent buffer
 
 -- 16: shorter than the length needed | length needed
@@ -244,6 +250,9 @@ optionLines f = line 18 (line18 f) ∷ line 19 (line19 f) ∷ line 20 (line20 f)
 unfoldable pub markerLines : List ℕ → List Line
 markerLines f = line 13 (line13 f) ∷ line 14 (line14 f) ∷ line 15 (line15 f) ∷ []
 
+unfoldable pub rowLines : List ℕ → List ℕ → List Line
+rowLines f row = line 21 (line21 f row) ∷ []
+
 unfoldable pub bufferLines : ℕ → ℕ → List Line
 bufferLines room need = line 16 (line16 room need) ∷ []
 
@@ -279,6 +288,14 @@ plannedLength b = length (fileOf b (some (b .caps)))
 -- the planner, on a file and a buffer
 unfoldable pub planLines : List ℕ → ℕ → List Line
 planLines f room = readLines f ++ bufferLines room (plannedLength (bookOf f))
+
+-- the length of a sheet body: two bytes for each seat and window
+abbrev pub bodyLength : List ℕ → ℕ
+bodyLength f = 2 * (seatsIn f * windowsIn f)
+
+-- from wanted totals to a sheet, on a file, a row and a buffer: whether a sheet comes or a group, the buffer has room for a sheet body
+unfoldable pub fulfilLines : List ℕ → List ℕ → ℕ → List Line
+fulfilLines f row room = readLines f ++ (rowLines f row ++ bufferLines room (bodyLength f))
 
 -- the writer, on the file that it would write and a buffer: 7, 8, 10, 11, 12, the lines of the kinds that may be missing, and 16
 unfoldable pub writeLines : List ℕ → ℕ → List Line

@@ -9,6 +9,10 @@ use Rattle.fairness.specs.Sums.{sum}
 use Rattle.fairness.specs.Instance.{Instance, Proper, Sheet, Wasteful}
 use Rattle.fairness.specs.Leximin.{table, insert, sort, levels, profile}
 use Rattle.fairness.specs.Exchange.{Move, Path, improves, tiesWrongly, improvesAt, tiesAt, Improvable, Tied}
+use Rattle.fairness.specs.Wanted.{Grants, WantsMore}
+use Rattle.fairness.specs.Aiming.{only}
+use Rattle.fairness.proofs.Decide.{sum-at}
+use Rattle.fairness.proofs.WantedTotals.{only-capacity}
 
 -- two seats of these weights and one window with one credit
 abbrev two : (ℕ → ℕ) → Instance
@@ -85,3 +89,20 @@ second-ties =
 first-profile : profile K7 first ≡ ((0, 1) ∷ (1, 2) ∷ [])
 unfolding profile levels table sort insert sum decLe
 first-profile = refl
+
+-- ---- wanted totals
+
+-- the one credit, wanted by seat 0
+first-granted : Grants even (λ i. 1 - i) first
+unfolding sum
+first-granted =
+    record { feasible = record { within = λ i j li lj. omega arith; fits = λ j lj. omega arith }; exact = λ i l. omega arith }
+
+-- where both want it, the two want more than they can get, and neither does alone
+both-want-more : WantsMore even (λ i. 1) (λ i. yes (tt {0}))
+unfolding sum
+both-want-more = omega arith
+
+one-wants-no-more : (i : ℕ) → i < 2 → WantsMore even (λ k. 1) (only i) → ⊥
+unfolding sum
+one-wants-no-more i l more = omega (arith, only-capacity even (λ k. 1) i l, sum-at 2 i 1 l)

@@ -40,6 +40,10 @@ pub mod StandardSearch
 pub mod StandardSets
 pub mod StandardAlike
 pub mod Standard
+-- wanted totals
+pub mod Even
+pub mod Aimed
+pub mod WantedTotals
 -- that the definitions are met
 pub mod Examples
 pub mod StandardExamples

@@ -10,5 +10,9 @@ pub mod Cuts
 pub mod Standard
 -- for the proofs of the code that makes it
 pub mod Raising
+-- paper 02's wanted totals; their theorems are in proofs/WantedTotals.antt
+pub mod Wanted
+-- for the proofs of the code that replies to them
+pub mod Aiming
 -- for the functions of src/
 pub mod Numbers

@@ -1,7 +1,7 @@
 -- The laws of sets of seats. A proof about sets cites these and goes no deeper.
 use mathlib.Core.Path.{_≡_, refl, sym}
-use mathlib.Core.Logic.{_≢_}
-use Prim.Native.Nat.{ℕ, zero, suc, _+_, _/_, _^_, _<_, _≤_}
+use mathlib.Core.Logic.{_≢_, _↔_}
+use Prim.Native.Nat.{ℕ, zero, suc, _+_, _*_, _/_, _^_, _<_, _≤_}
 use native.Mathlib.Nat.{pow-suc}
 use native.Mathlib.Decide.{ℕ-discrete, decLt}
 use native.Mathlib.Omega.{arith}
@@ -36,6 +36,28 @@ pub in-pos : (m i : ℕ) → In i m → 0 < m
 unfolding bit
 in-pos m zero e = omega arith
 in-pos m (suc i) e = omega (arith, in-pos (m / 2) i e)
+
+-- every decided set of numbers below n is that of a mask
+pub collected : (n : ℕ) (P : ℕ → Type 0) → ((i : ℕ) → Dec (P i)) → (m : ℕ) × ((i : ℕ) → In i m ↔ ((i < n) × P i))
+unfolding bit
+collected zero P in? = (0, λ i. (λ e. absurd (omega (arith, bit-zero i)), λ h. absurd (omega (arith, h .0))))
+collected (suc n) P in? = go (in? 0) (collected n (λ i. P (suc i)) (λ i. in? (suc i)))
+  where
+    go : Dec (P 0) → (m : ℕ) × ((i : ℕ) → In i m ↔ ((i < n) × P (suc i))) → (m : ℕ) × ((i : ℕ) → In i m ↔ ((i < suc n) × P i))
+    go (yes p) (m, rest) = (1 + 2 * m, at)
+      where
+        at : (i : ℕ) → In i (1 + 2 * m) ↔ ((i < suc n) × P i)
+        at zero = (λ e. (omega arith, p), λ h. omega arith)
+        at (suc i) =
+            let half : (1 + 2 * m) / 2 ≡ m = omega arith in
+            rw half (λ e. let h = rest i .0 e in (omega (arith, h .0), h .1), λ h. rest i .1 (omega (arith, h .0), h .1))
+    go (no q) (m, rest) = (2 * m, at)
+      where
+        at : (i : ℕ) → In i (2 * m) ↔ ((i < suc n) × P i)
+        at zero = (λ e. absurd (omega arith), λ h. absurd (q (h .1)))
+        at (suc i) =
+            let half : (2 * m) / 2 ≡ m = omega arith in
+            rw half (λ e. let h = rest i .0 e in (omega (arith, h .0), h .1), λ h. rest i .1 (omega (arith, h .0), h .1))
 
 -- ---- sizes
 
