@@ -1,7 +1,7 @@
 //! Times the library beside plain Rust on the same files, in turn within one loop.
 //!
 //!   bench             all tables; the numbers also go to target/speed.csv
-//!   bench worst [N]   looks N seconds (60) for books that take long to plan
+//!   bench worst [N]   looks N seconds (60) for books that take long to plan, and for wanted totals that take long
 //!   bench stack       how much stack each call uses
 //!
 //! Columns: "library" is the proved library, "plain Rust" a version in plain Rust that does the same: for plan, better and fulfil the same

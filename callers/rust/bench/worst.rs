@@ -1,78 +1,112 @@
-//! A search for books that take long to plan: random books, and from the hardest of some hundred uphill by small changes.
+//! A search for books that take long to plan, and for wanted totals that take long: random books, and from the hardest of some hundred
+//! uphill by small changes.
 //!
 //! Time wavers from run to run, so the search climbs by what the method has to do, which it counts in the plain version of the same
-//! method: in one climb the turns that settling takes, in the next the searches and exchanges that the standard sheet takes. The books it
-//! ends with are timed in the library.
+//! method: in one climb the turns that settling takes, in the next the searches and exchanges that the standard sheet takes, and in the
+//! third the turns that settling takes for wanted totals. What it ends with is timed in the library.
 
 use std::time::{Duration, Instant};
 
 use super::books::{file_of, BALANCES, TABLES};
 use super::credits;
-use super::reference::{Book, FILE_LENGTH, MOST_BALANCE, MOST_CREDITS, MOST_WEIGHT, SEATS};
+use super::reference::{Book, Wants, FILE_LENGTH, MOST_BALANCE, MOST_CREDITS, MOST_WEIGHT, SEATS, WINDOWS};
 use super::rng::Rng;
+use super::same_fulfil::{most_alone, sheet_or_group};
 use super::same_method::{counts, Counts};
+use super::same_standard::Work;
 use super::timing::median;
+use super::wanted::row_of;
 
-/// What a climb goes by, and how it is reported.
-type Cost = fn(&Counts) -> usize;
-const COSTS: [(&str, Cost); 2] = [("settling", settling), ("standard", raising)];
+/// A book, and totals that are wanted. No seat wants more than it can get alone: that would be told at once.
+#[derive(Clone)]
+struct Case {
+    book: Book,
+    wants: Wants,
+}
+
+/// What a case takes: the turns of the parts that settle, and the work for the standard sheet.
+struct Taken {
+    turns: [usize; 3],
+    work: Work,
+}
+
+/// What a climb goes by: its name, what is done with a case, and what of that counts; and how long it takes in the library.
+struct Climb {
+    name: &'static str,
+    take: fn(&Case) -> Taken,
+    cost: fn(&Taken) -> usize,
+    time: fn(&Case) -> f64,
+}
+
+const CLIMBS: [Climb; 3] = [
+    Climb { name: "settling", take: plan, cost: settling, time: plan_time },
+    Climb { name: "standard", take: plan, cost: raising, time: plan_time },
+    Climb { name: "wanted totals", take: fulfil, cost: settling, time: fulfil_time },
+];
+
+fn plan(case: &Case) -> Taken {
+    let Counts { turns, work, .. } = counts(&case.book);
+    Taken { turns, work }
+}
+
+fn fulfil(case: &Case) -> Taken {
+    Taken { turns: sheet_or_group(&case.book, &case.wants).1, work: Work::default() }
+}
 
 /// An exchange that is settled credit by credit, or a search of the slow pass, counts as this many turns or searches of the fast parts.
 const SLOW: usize = 20;
 
 /// The turns that settling takes.
-fn settling(counts: &Counts) -> usize {
-    let [coarse, fine, settling] = counts.turns;
+fn settling(taken: &Taken) -> usize {
+    let [coarse, fine, settling] = taken.turns;
     coarse + fine + SLOW * settling
 }
 
 /// What the standard sheet takes.
-fn raising(counts: &Counts) -> usize {
-    counts.work.searches + counts.work.pushes + SLOW * counts.work.left
+fn raising(taken: &Taken) -> usize {
+    taken.work.searches + taken.work.pushes + SLOW * taken.work.left
 }
 
-/// How many books the search has met, how many of them have balances and weights, and on how many the slow parts had something to do.
+/// How many books the search has met, how many of them have balances and weights and with how many totals were wanted, and on how many the
+/// slow parts had something to do.
 #[derive(Default)]
 struct Met {
     books: usize,
     with_balances: usize,
     with_weights: usize,
+    with_wants: usize,
     settling: usize,
     raising: usize,
 }
 
-/// Climbs from random books for that many seconds, and reports the book that takes longest.
+/// Climbs from random books for that many seconds, and reports the book and the wanted totals that take longest.
 pub fn search(seconds: u64) {
     let end = Instant::now() + Duration::from_secs(seconds);
     let (mut rng, mut met) = (Rng::new(17), Met::default());
-    let (mut longest, mut climbs) = (0.0, 0);
+    let (mut longest_plan, mut longest_row, mut climbs) = (0.0, 0.0, 0);
     while Instant::now() < end {
-        let (name, cost) = COSTS[climbs % COSTS.len()];
-        let draw = [any_book, level_book, loaded_book, light_book][climbs / COSTS.len() % 4];
-        let books = (0..1000).map(|_| draw(&mut rng));
-        let start = books.max_by_key(|book| met.cost(book, cost)).expect("1000 books");
+        let climb = &CLIMBS[climbs % CLIMBS.len()];
+        let draw = [any_book, level_book, loaded_book, light_book][climbs / CLIMBS.len() % 4];
+        let cases = (0..1000).map(|_| any_wants(&mut rng, draw));
+        let start = cases.max_by_key(|case| met.cost(climb, case)).expect("1000 books");
         let until = end.min(Instant::now() + Duration::from_secs(seconds.div_ceil(16)));
-        let (book, changes) = climb(&mut rng, &mut met, cost, start.clone(), until);
-        let time = plan_time(&book);
-        println!("climb {climbs} by {name}: {}", took(&start));
-        println!("  after {changes} changes {}, {time:.0} µs", took(&book));
+        let (case, changes) = climb.uphill(&mut rng, &mut met, start.clone(), until);
+        let time = (climb.time)(&case);
+        println!("climb {climbs} by {}: {}", climb.name, (climb.take)(&start).in_words());
+        println!("  after {changes} changes {}, {time:.0} µs", (climb.take)(&case).in_words());
         climbs += 1;
-        if time > longest {
-            longest = time;
-            std::fs::create_dir_all("target").expect("target");
-            std::fs::write("target/worst.day", file_of(&book, None)).expect("target/worst.day");
+        let longest = if climb.is_for_wants() { &mut longest_row } else { &mut longest_plan };
+        if time > *longest {
+            *longest = time;
+            keep(climb, &case);
         }
     }
     println!("{} books, {} of them with balances, {} with weights", met.books, met.with_balances, met.with_weights);
+    println!("and {} with wanted totals", met.with_wants);
     println!("settling had something to do on {} of them", met.settling);
     println!("the fast pass to the standard sheet left something on {}", met.raising);
-    println!("longest plan found: {longest:.0} µs, target/worst.day");
-}
-
-/// What planning a book takes, in words.
-fn took(book: &Book) -> String {
-    let Counts { turns, work, .. } = counts(book);
-    format!("{turns:?} turns, {} searches, {} exchanges, {} slow searches", work.searches, work.pushes, work.left)
+    println!("longest plan found: {longest_plan:.0} µs, target/worst.day");
+    println!("longest wanted totals found: {longest_row:.0} µs, target/worst-wanted.day and target/worst-wanted.row");
 }
 
 /// A book with caps and supplies of any size: how high, how many and how scarce is drawn for the whole book. Half of the books name a first
@@ -143,33 +177,77 @@ fn light_book(rng: &mut Rng) -> Book {
     Book { weights: Some([1, 994, 995, 996, 997, 998, 999, 1000]), ..book }
 }
 
-impl Met {
-    fn cost(&mut self, book: &Book, cost: Cost) -> usize {
-        let counts = counts(book);
-        self.books += 1;
-        self.with_balances += book.balances.is_some() as usize;
-        self.with_weights += book.weights.is_some() as usize;
-        self.settling += (counts.turns[2] > 0) as usize;
-        self.raising += (counts.work.left > 0) as usize;
-        cost(&counts)
+/// Wanted totals for a book that is drawn: any that a seat can get alone, or all or nothing of that; or such as the plan has, halved or with
+/// a few credits more.
+fn any_wants(rng: &mut Rng, draw: fn(&mut Rng) -> Book) -> Case {
+    let book = draw(rng);
+    let (kind, totals) = (rng.below(4), counts(&book).totals);
+    let mut wants = [0; SEATS];
+    for seat in 0..book.seats {
+        let most = most_alone(&book, seat);
+        wants[seat] = match kind {
+            0 => rng.below(most as usize + 1) as u32,
+            1 => rng.once_in(4) as u32 * most,
+            2 => totals[seat] / 2,
+            _ => most.min(totals[seat] + rng.below(20) as u32),
+        };
+    }
+    Case { book, wants }
+}
+
+impl Taken {
+    fn in_words(&self) -> String {
+        let Taken { turns, work } = self;
+        format!("{turns:?} turns, {} searches, {} exchanges, {} slow searches", work.searches, work.pushes, work.left)
     }
 }
 
-/// Small changes, kept where the book gets no easier.
-fn climb(rng: &mut Rng, met: &mut Met, cost: Cost, mut book: Book, end: Instant) -> (Book, usize) {
-    let (mut best, mut changes) = (met.cost(&book, cost), 0);
-    while Instant::now() < end {
-        let mut other = book.clone();
-        for _ in 0..=rng.below(4) {
-            change(rng, &mut other);
-        }
-        let harder = met.cost(&other, cost);
-        changes += (harder > best) as usize;
-        if harder >= best {
-            (book, best) = (other, harder);
-        }
+impl Met {
+    fn cost(&mut self, climb: &Climb, case: &Case) -> usize {
+        let taken = (climb.take)(case);
+        self.books += 1;
+        self.with_balances += case.book.balances.is_some() as usize;
+        self.with_weights += case.book.weights.is_some() as usize;
+        self.with_wants += climb.is_for_wants() as usize;
+        self.settling += (taken.turns[2] > 0) as usize;
+        self.raising += (taken.work.left > 0) as usize;
+        (climb.cost)(&taken)
     }
-    (book, changes)
+}
+
+impl Climb {
+    fn is_for_wants(&self) -> bool {
+        self.name == "wanted totals"
+    }
+
+    /// Small changes, kept where the case gets no easier.
+    fn uphill(&self, rng: &mut Rng, met: &mut Met, mut case: Case, end: Instant) -> (Case, usize) {
+        let (mut best, mut changes) = (met.cost(self, &case), 0);
+        while Instant::now() < end {
+            let mut other = case.clone();
+            for _ in 0..=rng.below(4) {
+                change(rng, &mut other.book);
+                change_want(rng, &mut other);
+            }
+            let harder = met.cost(self, &other);
+            changes += (harder > best) as usize;
+            if harder >= best {
+                (case, best) = (other, harder);
+            }
+        }
+        (case, changes)
+    }
+}
+
+/// At times another want, any or one that is near; and no seat wants more than it can get alone.
+fn change_want(rng: &mut Rng, case: &mut Case) {
+    let seat = rng.below(case.book.seats);
+    match rng.below(6) {
+        0 => case.wants[seat] = rng.below(most_alone(&case.book, seat) as usize + 1) as u32,
+        1 => case.wants[seat] = (case.wants[seat] + rng.below(17) as u32).saturating_sub(8),
+        _ => (),
+    }
+    (0..case.book.seats).for_each(|seat| case.wants[seat] = case.wants[seat].min(most_alone(&case.book, seat)));
 }
 
 /// Another class, supply, cap, first seat or, where there are balances or weights, one of these; or two seats' caps in a window the other
@@ -210,14 +288,34 @@ fn credits_near(rng: &mut Rng, credits: u16, most: u16) -> u16 {
     (if rng.once_in(2) { near } else { rng.below(any) }).min(most as usize) as u16
 }
 
-/// The median of many runs in the library, in microseconds.
-fn plan_time(book: &Book) -> f64 {
-    let file = file_of(book, None);
-    let mut out = [0; FILE_LENGTH];
+/// The median of many runs of a call of the library, in microseconds.
+fn median_time(mut call: impl FnMut()) -> f64 {
     let mut run = || {
         let begin = Instant::now();
-        credits::plan(&file, &mut out).expect("a book within its bounds");
+        call();
         begin.elapsed().as_secs_f64() * 1e6
     };
     median(&mut (0..51).map(|_| run()).collect::<Vec<_>>())
+}
+
+fn plan_time(case: &Case) -> f64 {
+    let (file, mut out) = (file_of(&case.book, None), [0; FILE_LENGTH]);
+    median_time(|| assert!(credits::plan(&file, &mut out).is_ok()))
+}
+
+fn fulfil_time(case: &Case) -> f64 {
+    let (file, row, mut out) = (file_of(&case.book, None), row_of(&case.book, &case.wants), [0; 2 * SEATS * WINDOWS]);
+    median_time(|| assert_eq!(credits::raw::fulfil(&file, &row, &mut out).refusal, 0))
+}
+
+/// Keeps the file, and the row where totals are wanted.
+fn keep(climb: &Climb, case: &Case) {
+    let (file, row) = (file_of(&case.book, None), row_of(&case.book, &case.wants));
+    std::fs::create_dir_all("target").expect("target");
+    if climb.is_for_wants() {
+        std::fs::write("target/worst-wanted.day", file).expect("target/worst-wanted.day");
+        std::fs::write("target/worst-wanted.row", row).expect("target/worst-wanted.row");
+    } else {
+        std::fs::write("target/worst.day", file).expect("target/worst.day");
+    }
 }
