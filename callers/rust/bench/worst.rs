@@ -177,8 +177,8 @@ fn light_book(rng: &mut Rng) -> Book {
     Book { weights: Some([1, 994, 995, 996, 997, 998, 999, 1000]), ..book }
 }
 
-/// Wanted totals for a book that is drawn: any that a seat can get alone, or all or nothing of that; or such as the plan has, halved or with
-/// a few credits more.
+/// Wanted totals for a book that is drawn: any that a seat can get alone, or all or nothing of that; or such as the plan has, halved or
+/// with a few credits more.
 fn any_wants(rng: &mut Rng, draw: fn(&mut Rng) -> Book) -> Case {
     let book = draw(rng);
     let (kind, totals) = (rng.below(4), counts(&book).totals);
