@@ -1,0 +1,148 @@
+-- What the steps of the call show, from what is read, granted and stored. Assumes nothing.
+use mathlib.Core.Path.{_≡_, refl, sym, ap, ap₂, subst, _∙_}
+use mathlib.Core.Bool.{true}
+use mathlib.Core.List.{List, _++_}
+use mathlib.Core.Option.{none, some}
+use Prim.Native.Nat.{ℕ, _*_, _≤_, _<_}
+use native.Mathlib.Decide.{decLt}
+use native.Mathlib.Omega.{arith}
+use borrow.Author.Tests.{eq-eqb, ne-eqb, lt-ltb, le-ltb}
+use lib.ListN.{length, drop, getD}
+use Rattle.fairness.specs.Instance.{Instance}
+use Rattle.fairness.specs.Wanted.{Grants}
+use Rattle.fairness.proofs.WantedTotals.{same-cells}
+use Rattle.model.specs.Book.{Book, Grid, cell, seats, windows, instanceOf}
+use Rattle.sheet.specs.Sheets.{gridOf}
+use Rattle.dayfile.specs.declared.Book as Memory
+use Rattle.dayfile.specs.declared.Reading.{Reading}
+use Rattle.dayfile.specs.File.{bytesOf, flat}
+use Rattle.dayfile.specs.Layout.{bookOf, seatsIn, windowsIn}
+use Rattle.dayfile.specs.Table.{refuse, firstOf, line16, line21, readLines, rowLines, bufferLines, bodyLength, fulfilLines}
+use Rattle.dayfile.specs.Memory.{cellsIn, bookIn, front, Reads}
+use Rattle.dayfile.proofs.Lines.{stop-in, on-after, none-parts}
+use Rattle.dayfile.proofs.Answers.{defined-refusal, defined-answer}
+use Rattle.dayfile.proofs.Fields.{fields-length}
+use Rattle.dayfile.proofs.Grids.{sized-flat-length}
+use Rattle.dayfile.proofs.Held.{seats-in, windows-in, sheet-shaped}
+use Rattle.dayfile.proofs.Readings.{read-day}
+use Rattle.dayfile.proofs.Used.{cell-in}
+use Rattle.store.specs.Stores.{Room, Put}
+use Rattle.store.proofs.Storing.{put-end, put-front}
+use Rattle.wants.specs.Wanted.{want, Gives, Overasks}
+use Rattle.wants.proofs.Theorems.{grants-same, overasks-same, never-both}
+use Rattle.reply.specs.declared.Reply.the-variants.{Refused, Sheet, Group}
+use Rattle.fulfil.specs.Fulfilling.{aSheet, aGroup, Given, Fulfils}
+use Rattle.fulfil.specs.Steps.{lentLines}
+
+-- ---- the row and the buffer
+
+-- line 21, by the number of seats that was read
+pub row-right : (f row : List ℕ) (n : ℕ) → n ≡ seatsIn f → length row ≡ 4 * n → none ≡ line21 f row
+unfolding line21
+row-right f row n e l = rw (eq-eqb (length row) (4 * seatsIn f) (omega arith)) refl
+
+pub row-wrong : (f row : List ℕ) (n : ℕ) → n ≡ seatsIn f → (length row ≡ 4 * n → ⊥) → some 0 ≡ line21 f row
+unfolding line21
+row-wrong f row n e l = rw (ne-eqb (length row) (4 * seatsIn f) (λ k. l (omega arith))) refl
+
+module _ (f row : List ℕ) (room : ℕ) where
+  pub lent-row : (p : ℕ) → line21 f row ≡ some p → some (refuse 21 p) ≡ firstOf (lentLines f row room)
+  unfolding rowLines
+  lent-row p e = rw e refl
+
+  module _ (passed : line21 f row ≡ none) (need : ℕ) (need-is : need ≡ bodyLength f) where
+    pub lent-short : room < need → some (refuse 16 need) ≡ firstOf (lentLines f row room)
+    unfolding rowLines bufferLines line16
+    lent-short l = rw (passed, ← need-is, lt-ltb room need l) refl
+
+    pub lent-passes : need ≤ room → none ≡ firstOf (lentLines f row room)
+    unfolding rowLines bufferLines line16
+    lent-passes l = rw (passed, ← need-is, le-ltb room need l) refl
+
+-- no line of the two holds, so the buffer is long enough
+pub lent-room : (f row : List ℕ) (room : ℕ) → firstOf (lentLines f row room) ≡ none → bodyLength f ≤ room
+unfolding rowLines bufferLines line16
+lent-room f row room e = go (decLt room (bodyLength f)) (none-parts (rowLines f row) (bufferLines room (bodyLength f)) e .1)
+  where
+    go : Dec (room < bodyLength f) → firstOf (bufferLines room (bodyLength f)) ≡ none → bodyLength f ≤ room
+    go (no d) h = omega arith
+    go (yes l) h = absurd (let z : _≡_ {A = ℕ} 0 1 = (let h′ = rw (lt-ltb room (bodyLength f) l) at h in cc) in omega arith)
+
+-- ---- a grid in memory that grants the wants of a book in memory is a sheet that gives them
+
+module _ (m : Memory.Book) (caps grid : Grid) (wants : ℕ → ℕ) where
+  gives : Grants (instanceOf (bookIn m caps)) wants (cell grid) → Gives (bookIn m caps) wants (cellsIn m grid)
+  unfolding instanceOf
+  gives h =
+      record {
+        a-sheet = sheet-shaped m caps true grid;
+        grants = same-cells (instanceOf (bookIn m caps)) wants (cell grid) (cell (cellsIn m grid))
+            (λ i j li lj. sym (cell-in m grid i j (omega (arith, seats-in m caps)) (omega (arith, windows-in m caps)))) h;
+      }
+
+-- ---- the replies
+
+module _ (f row old : List ℕ) where
+  -- a line of the reader's holds
+  pub fulfil-refused : (n p : ℕ) → firstOf (readLines f) ≡ some (refuse n p) → Fulfils f row old old (Refused n p)
+  unfolding fulfilLines
+  fulfil-refused n p e = defined-refusal (refuse n p) (stop-in (readLines f) _ (refuse n p) e) refl refl
+
+  module _ (r : Reading) (reads : Reads f r) (free : firstOf (readLines f) ≡ none) where
+    -- line 21, or line 16
+    pub lent-refused : (n p : ℕ) → firstOf (lentLines f row (length old)) ≡ some (refuse n p) → Fulfils f row old old (Refused n p)
+    unfolding fulfilLines
+    lent-refused n p e = defined-refusal (refuse n p) (on-after (readLines f) (lentLines f row (length old)) free ∙ e) refl refl
+
+    -- no line holds; caps that were read and put into an array of arrays, and the wants of the row
+    module _ (lent : firstOf (lentLines f row (length old)) ≡ none) (caps : Grid) (caps-are : caps ≡ gridOf (r .day .caps))
+        (wants : List ℕ) (wants-are : (i : ℕ) → i < r .day .book .seats → getD wants i 0 ≡ want row i) where
+      abbrev b : Book
+      b = bookIn (r .day .book) caps
+
+      same : b ≡ bookOf f
+      same = ap (bookIn (r .day .book)) caps-are ∙ read-day f r reads free .0
+
+      passed : firstOf (fulfilLines f row (length old)) ≡ none
+      unfolding fulfilLines
+      passed = on-after (readLines f) (lentLines f row (length old)) free ∙ lent
+
+      wants-same : (i : ℕ) → i < instanceOf b .seats → getD wants i 0 ≡ want row i
+      unfolding instanceOf
+      wants-same i l = wants-are i (omega (arith, seats-in (r .day .book) caps))
+
+      pub fulfil-group : (g : ℕ) → Overasks (instanceOf b) (λ i. getD wants i 0) g → Fulfils f row old old (Group g)
+      fulfil-group g o =
+          let here : Overasks (instanceOf (bookOf f)) (want row) g =
+          subst (λ (x : Book). Overasks (instanceOf x) (want row) g) same (overasks-same (instanceOf b) _ (want row) wants-same g o) in
+          defined-answer (aGroup g) passed refl ((here, refl), (λ x. absurd x, λ s. never-both (bookOf f) (want row) s g here))
+
+      -- the length of a sheet body
+      long : (grid : Grid) → 2 * length (flat (cellsIn (r .day .book) grid)) ≡ bodyLength f
+      unfolding bookOf
+      long grid =
+          let n : r .day .book .seats ≡ seatsIn f = sym (seats-in (r .day .book) caps) ∙ ap seats same ∙ fields-length f _ (seatsIn f) in
+          let k : r .day .book .windows ≡ windowsIn f =
+          sym (windows-in (r .day .book) caps) ∙ ap windows same ∙ fields-length f _ (windowsIn f) in
+          ap (λ (x : ℕ). 2 * x) (sized-flat-length (r .day .book .seats) (r .day .book .windows) grid)
+          ∙ ap₂ (λ (x y : ℕ). 2 * (x * y)) n k
+
+      module _ (room : bodyLength f ≤ length old) (grid : Grid) where
+        pub body-room : Room old 0 (flat (cellsIn (r .day .book) grid))
+        body-room = record { fits = omega (arith, long grid) }
+
+        pub fulfil-sheet : Grants (instanceOf b) (λ i. getD wants i 0) (cell grid) → (n : ℕ) (new : List ℕ) →
+            Put old 0 (flat (cellsIn (r .day .book) grid)) n new → Fulfils f row old new (Sheet n)
+        unfolding front
+        fulfil-sheet h n new put =
+            let granted = grants-same (instanceOf b) _ (want row) wants-same (cell grid) h in
+            let here : Gives (bookOf f) (want row) (cellsIn (r .day .book) grid) =
+            subst (λ (x : Book). Gives x (want row) (cellsIn (r .day .book) grid)) same
+            (gives (r .day .book) caps grid (want row) granted) in
+            let given : Given (bookOf f) (want row) old new = record {
+              sheet = cellsIn (r .day .book) grid;
+              gives = here;
+              bytes = put-front put (omega (arith, long grid));
+            } in
+            defined-answer (aSheet n) passed refl
+            ((omega (arith, put-end put, long grid), given), (λ x. (cellsIn (r .day .book) grid, here), λ x. tt))
