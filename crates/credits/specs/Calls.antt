@@ -9,6 +9,9 @@ use Rattle.listing.specs.Calls.{Lists}
 use Rattle.choice.specs.declared.BetterResult.{BetterResult}
 use Rattle.better.specs.Choice.{Chooses}
 use Rattle.choice.specs.Numbers.{bodyOf, betterNumbers}
+use Rattle.reply.specs.declared.FulfilResult.{FulfilResult}
+use Rattle.reply.specs.Numbers.{fulfilNumbers}
+use Rattle.fulfil.specs.Fulfilling.{Fulfils}
 use Rattle.answers.specs.declared.CreditsBook.{CreditsBook}
 use Rattle.answers.specs.declared.ReadResult.{ReadResult}
 use Rattle.answers.specs.declared.MarkResult.{MarkResult}
@@ -44,3 +47,7 @@ ListsAs file before after r = InNumbers writeNumbers (Lists file before after) r
 -- credits_better
 abbrev pub BettersAs : (f g : List ℕ) → BetterResult → Type 0
 BettersAs f g r = InNumbers (λ c. betterNumbers c (bodyOf c f g)) (Chooses f g) r
+
+-- credits_fulfil
+abbrev pub FulfilsAs : (file row before after : List ℕ) → FulfilResult → Type 0
+FulfilsAs file row before after r = InNumbers fulfilNumbers (Fulfils file row before after) r

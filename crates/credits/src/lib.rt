@@ -1,6 +1,6 @@
 // The library for C, Rust and Python: every public call, exported, in the order of include/credits.h. What crosses is numbers, slices and
 // structs of numbers. The contracts are in specs/Calls.antt.
-ghost use Rattle.credits.specs.Calls.{ReadsAs, WritesAs, MarksAs, PlansAs, ListsAs, BettersAs};
+ghost use Rattle.credits.specs.Calls.{ReadsAs, WritesAs, MarksAs, PlansAs, ListsAs, BettersAs, FulfilsAs};
 use answers::CreditsBook;
 use answers::MarkResult;
 use answers::ReadResult;
@@ -8,6 +8,7 @@ use answers::WriteResult;
 use better::body_span;
 use better::choose;
 use choice::BetterResult;
+use reply::FulfilResult;
 
 // The book and the sheet of a file.
 #[no_mangle]
@@ -56,4 +57,12 @@ pub extern "C" fn credits_better(first: &[u8], second: &[u8]) -> BetterResult
 {
     let choice = choose(first, second);
     BetterResult::of(choice, body_span(choice, first, second))
+}
+
+// A sheet with the wanted totals, its body to the front of the buffer, or a group of seats that wants more than it can get.
+#[no_mangle]
+pub extern "C" fn credits_fulfil(file: &[u8], wanted: &[u8], out: &mut [u8]) -> FulfilResult
+    ensures { λ r. ⌜ FulfilsAs (now (file .entry)) (now (wanted .entry)) (now (out .entry)) (now (out .exit)) r ⌝ }
+{
+    FulfilResult::of(fulfil::fulfil(file, wanted, out))
 }
