@@ -8,7 +8,6 @@ use native.Mathlib.Decide.{decLt}
 use native.Mathlib.Omega.{arith}
 use borrow.Author.Tests.{eq-eqb, ne-eqb, lt-ltb, le-ltb}
 use lib.ListN.{length, drop, getD}
-use Rattle.fairness.specs.Instance.{Instance}
 use Rattle.fairness.specs.Wanted.{Grants}
 use Rattle.fairness.proofs.WantedTotals.{same-cells}
 use Rattle.model.specs.Book.{Book, Grid, cell, seats, windows, instanceOf}
@@ -20,8 +19,8 @@ use Rattle.dayfile.specs.Layout.{bookOf, seatsIn, windowsIn}
 use Rattle.dayfile.specs.Table.{refuse, firstOf, line16, line21, readLines, rowLines, bufferLines, bodyLength, fulfilLines}
 use Rattle.dayfile.specs.Memory.{cellsIn, bookIn, front, Reads}
 use Rattle.dayfile.proofs.Lines.{stop-in, on-after, none-parts}
+use Rattle.dayfile.proofs.Accepted.{seats-are, windows-are}
 use Rattle.dayfile.proofs.Answers.{defined-refusal, defined-answer}
-use Rattle.dayfile.proofs.Fields.{fields-length}
 use Rattle.dayfile.proofs.Grids.{sized-flat-length}
 use Rattle.dayfile.proofs.Held.{seats-in, windows-in, sheet-shaped}
 use Rattle.dayfile.proofs.Readings.{read-day}
@@ -82,67 +81,78 @@ module _ (m : Memory.Book) (caps grid : Grid) (wants : ℕ → ℕ) where
 
 -- ---- the replies
 
+-- a file, a row and a buffer of which no line holds: what was read, its caps put into an array of arrays, and the wants of the row
+pub record Asked (f row old : List ℕ) : Type 0 where
+  pub reading : Reading
+  pub reads : Reads f reading
+  pub free : firstOf (readLines f) ≡ none
+  pub lent : firstOf (lentLines f row (length old)) ≡ none
+  pub caps : Grid
+  pub caps-are : caps ≡ gridOf (reading .day .caps)
+  pub wants : List ℕ
+  pub wants-are : (i : ℕ) → i < reading .day .book .seats → getD wants i 0 ≡ want row i
+
 module _ (f row old : List ℕ) where
   -- a line of the reader's holds
   pub fulfil-refused : (n p : ℕ) → firstOf (readLines f) ≡ some (refuse n p) → Fulfils f row old old (Refused n p)
   unfolding fulfilLines
   fulfil-refused n p e = defined-refusal (refuse n p) (stop-in (readLines f) _ (refuse n p) e) refl refl
 
-  module _ (r : Reading) (reads : Reads f r) (free : firstOf (readLines f) ≡ none) where
-    -- line 21, or line 16
-    pub lent-refused : (n p : ℕ) → firstOf (lentLines f row (length old)) ≡ some (refuse n p) → Fulfils f row old old (Refused n p)
+  -- line 21 does, or line 16
+  pub lent-refused : firstOf (readLines f) ≡ none → (n p : ℕ) → firstOf (lentLines f row (length old)) ≡ some (refuse n p) →
+      Fulfils f row old old (Refused n p)
+  unfolding fulfilLines
+  lent-refused free n p e = defined-refusal (refuse n p) (on-after (readLines f) (lentLines f row (length old)) free ∙ e) refl refl
+
+  module _ (q : Asked f row old) where
+    abbrev m : Memory.Book
+    m = q .reading .day .book
+
+    abbrev b : Book
+    b = bookIn m (q .caps)
+
+    abbrev w : ℕ → ℕ
+    w i = getD (q .wants) i 0
+
+    same : b ≡ bookOf f
+    same = ap (bookIn m) (q .caps-are) ∙ read-day f (q .reading) (q .reads) (q .free) .0
+
+    passed : firstOf (fulfilLines f row (length old)) ≡ none
     unfolding fulfilLines
-    lent-refused n p e = defined-refusal (refuse n p) (on-after (readLines f) (lentLines f row (length old)) free ∙ e) refl refl
+    passed = on-after (readLines f) (lentLines f row (length old)) (q .free) ∙ q .lent
 
-    -- no line holds; caps that were read and put into an array of arrays, and the wants of the row
-    module _ (lent : firstOf (lentLines f row (length old)) ≡ none) (caps : Grid) (caps-are : caps ≡ gridOf (r .day .caps))
-        (wants : List ℕ) (wants-are : (i : ℕ) → i < r .day .book .seats → getD wants i 0 ≡ want row i) where
-      abbrev b : Book
-      b = bookIn (r .day .book) caps
+    wants-same : (i : ℕ) → i < instanceOf b .seats → w i ≡ want row i
+    unfolding instanceOf
+    wants-same i l = q .wants-are i (omega (arith, seats-in m (q .caps)))
 
-      same : b ≡ bookOf f
-      same = ap (bookIn (r .day .book)) caps-are ∙ read-day f r reads free .0
+    pub fulfil-group : (g : ℕ) → Overasks (instanceOf b) w g → Fulfils f row old old (Group g)
+    fulfil-group g o =
+        let here : Overasks (instanceOf (bookOf f)) (want row) g =
+        subst (λ (x : Book). Overasks (instanceOf x) (want row) g) same (overasks-same (instanceOf b) _ (want row) wants-same g o) in
+        defined-answer (aGroup g) passed refl ((here, refl), (λ x. absurd x, λ s. never-both (bookOf f) (want row) s g here))
 
-      passed : firstOf (fulfilLines f row (length old)) ≡ none
-      unfolding fulfilLines
-      passed = on-after (readLines f) (lentLines f row (length old)) free ∙ lent
+    module _ (grid : Grid) where
+      -- the length of the sheet body
+      long : 2 * length (flat (cellsIn m grid)) ≡ bodyLength f
+      long =
+          let seats : m .seats ≡ seatsIn f = sym (seats-in m (q .caps)) ∙ ap seats same ∙ seats-are f in
+          let windows : m .windows ≡ windowsIn f = sym (windows-in m (q .caps)) ∙ ap windows same ∙ windows-are f in
+          ap (λ (x : ℕ). 2 * x) (sized-flat-length (m .seats) (m .windows) grid) ∙ ap₂ (λ (x y : ℕ). 2 * (x * y)) seats windows
 
-      wants-same : (i : ℕ) → i < instanceOf b .seats → getD wants i 0 ≡ want row i
-      unfolding instanceOf
-      wants-same i l = wants-are i (omega (arith, seats-in (r .day .book) caps))
+      pub body-room : Room old 0 (flat (cellsIn m grid))
+      body-room = record { fits = omega (arith, long, lent-room f row (length old) (q .lent)) }
 
-      pub fulfil-group : (g : ℕ) → Overasks (instanceOf b) (λ i. getD wants i 0) g → Fulfils f row old old (Group g)
-      fulfil-group g o =
-          let here : Overasks (instanceOf (bookOf f)) (want row) g =
-          subst (λ (x : Book). Overasks (instanceOf x) (want row) g) same (overasks-same (instanceOf b) _ (want row) wants-same g o) in
-          defined-answer (aGroup g) passed refl ((here, refl), (λ x. absurd x, λ s. never-both (bookOf f) (want row) s g here))
-
-      -- the length of a sheet body
-      long : (grid : Grid) → 2 * length (flat (cellsIn (r .day .book) grid)) ≡ bodyLength f
-      unfolding bookOf
-      long grid =
-          let n : r .day .book .seats ≡ seatsIn f = sym (seats-in (r .day .book) caps) ∙ ap seats same ∙ fields-length f _ (seatsIn f) in
-          let k : r .day .book .windows ≡ windowsIn f =
-          sym (windows-in (r .day .book) caps) ∙ ap windows same ∙ fields-length f _ (windowsIn f) in
-          ap (λ (x : ℕ). 2 * x) (sized-flat-length (r .day .book .seats) (r .day .book .windows) grid)
-          ∙ ap₂ (λ (x y : ℕ). 2 * (x * y)) n k
-
-      module _ (room : bodyLength f ≤ length old) (grid : Grid) where
-        pub body-room : Room old 0 (flat (cellsIn (r .day .book) grid))
-        body-room = record { fits = omega (arith, long grid) }
-
-        pub fulfil-sheet : Grants (instanceOf b) (λ i. getD wants i 0) (cell grid) → (n : ℕ) (new : List ℕ) →
-            Put old 0 (flat (cellsIn (r .day .book) grid)) n new → Fulfils f row old new (Sheet n)
-        unfolding front
-        fulfil-sheet h n new put =
-            let granted = grants-same (instanceOf b) _ (want row) wants-same (cell grid) h in
-            let here : Gives (bookOf f) (want row) (cellsIn (r .day .book) grid) =
-            subst (λ (x : Book). Gives x (want row) (cellsIn (r .day .book) grid)) same
-            (gives (r .day .book) caps grid (want row) granted) in
-            let given : Given (bookOf f) (want row) old new = record {
-              sheet = cellsIn (r .day .book) grid;
-              gives = here;
-              bytes = put-front put (omega (arith, long grid));
-            } in
-            defined-answer (aSheet n) passed refl
-            ((omega (arith, put-end put, long grid), given), (λ x. (cellsIn (r .day .book) grid, here), λ x. tt))
+      pub fulfil-sheet : Grants (instanceOf b) w (cell grid) → (n : ℕ) (new : List ℕ) → Put old 0 (flat (cellsIn m grid)) n new →
+          Fulfils f row old new (Sheet n)
+      unfolding front
+      fulfil-sheet h n new put =
+          let granted = grants-same (instanceOf b) _ (want row) wants-same (cell grid) h in
+          let here : Gives (bookOf f) (want row) (cellsIn m grid) =
+          subst (λ (x : Book). Gives x (want row) (cellsIn m grid)) same (gives m (q .caps) grid (want row) granted) in
+          let given : Given (bookOf f) (want row) old new = record {
+            sheet = cellsIn m grid;
+            gives = here;
+            bytes = put-front put (omega (arith, long, lent-room f row (length old) (q .lent)));
+          } in
+          defined-answer (aSheet n) passed refl
+          ((omega (arith, put-end put, long), given), (λ x. (cellsIn m grid, here), λ x. tt))

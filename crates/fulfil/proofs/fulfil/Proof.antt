@@ -15,7 +15,7 @@ use Rattle.dayfile.proofs.Used.{range-in}
 use Rattle.instance.proofs.Told.{small-told}
 use Rattle.grant.proofs.Groups.{of-group, of-none}
 use Rattle.fulfil.specs.Steps.{lentLines}
-use Rattle.fulfil.proofs.Replies.{fulfil-refused, lent-refused, lent-room, fulfil-group, body-room, fulfil-sheet}
+use Rattle.fulfil.proofs.Replies.{Asked, fulfil-refused, lent-refused, fulfil-group, body-room, fulfil-sheet}
 use Rattle.fulfil.proofs.fulfil.Statement.{statement}
 use Rattle.fulfil.proofs.fulfil.Tie as tie
 
@@ -31,8 +31,7 @@ returns-2 : tie.Need-returns-2
 returns-2 c =
     let lent = c .before .before .before in
     let told = lent .before in
-    lent-refused _ _ _ (told .before .before .read .result) (told .before .before .read .ensures) (free told) _ _
-    (refuses (lent .check-lent .ensures) (c .before .number .given .1))
+    lent-refused _ _ _ (free told) _ _ (refuses (lent .check-lent .ensures) (c .before .number .given .1))
 
 -- nor one of what is lent beside the file
 passed : (c : tie.After-enum-told2) → let start = c .before .before .before .before .before .before .before .before .before in
@@ -57,49 +56,42 @@ grant-requires c κs =
     let caps = terms .before .to-grid .result in
     small-told _ (terms .terms-of .result) caps (fits (terms .before)) (made .1 caps) (made .0)
 
+-- what is asked, of the book and the wants as they are in memory
+abbrev asked : (c : tie.After-wants-of) →
+    let start = c .before .before .before .before .before .before .before .before .before .before .before .before .before .before in
+    Asked (now (start .args .file)) (now (start .args .row)) (now (start .args .out))
+asked c =
+    let grid = c .before .before .before in
+    let told = grid .before .before .before .before .before in
+    record {
+      reading = told .before .before .read .result;
+      reads = told .before .before .read .ensures;
+      free = free told;
+      lent = passed (grid .before .before);
+      caps = grid .to-grid .result;
+      caps-are = grid .to-grid .ensures;
+      wants = c .wants-of .result;
+      wants-are = c .wants-of .ensures;
+    }
+
 returns-3 : tie.Need-returns-3
 returns-3 c =
-    let grant = c .before in
-    let wants = grant .before .before in
-    let terms = wants .before .before in
-    let grid = terms .before in
-    let sound = grid .before .before in
-    let told = sound .before .before .before in
-    let read = told .before .before .read in
-    let caps = grid .to-grid in
-    fulfil-group _ _ _ (read .result) (read .ensures) (free told) (passed sound) (caps .result) (caps .ensures) (wants .wants-of .result)
-    (wants .wants-of .ensures) _ (of-group _ _ _ (c .if1 .taken) (grant .grant .ensures _ (terms .terms-of .ensures .1 (caps .result))))
+    let wants = c .before .before .before in
+    let told = wants .before .before .terms-of .ensures .1 (asked wants .caps) in
+    fulfil-group _ _ _ (asked wants) _ (of-group _ _ _ (c .if1 .taken) (c .before .grant .ensures _ told))
 
 put-rows-requires : tie.Need-put-rows-requires
 put-rows-requires c κs =
-    let grant = c .before .before .before in
-    let wants = grant .before .before in
-    let terms = wants .before .before in
-    let grid = terms .before in
-    let sound = grid .before .before in
-    let told = sound .before .before .before in
-    let read = told .before .before .read in
-    let caps = grid .to-grid in (
-      range-in _ _ (fits grid) .0,
-      body-room _ _ _ (read .result) (read .ensures) (free told) (passed sound) (caps .result) (caps .ensures) (wants .wants-of .result)
-          (wants .wants-of .ensures) (lent-room _ _ _ (passed sound)) _,
-    )
+    let wants = c .before .before .before .before .before in
+    (range-in _ _ (fits (wants .before .before .before)) .0, body-room _ _ _ (asked wants) _)
 
 returns-4 : tie.Need-returns-4
 returns-4 c =
     let put = c .before .before in
     let none = put .before .before .before in
-    let grant = none .before in
-    let wants = grant .before .before in
-    let terms = wants .before .before in
-    let grid = terms .before in
-    let sound = grid .before .before in
-    let told = sound .before .before .before in
-    let read = told .before .before .read in
-    let caps = grid .to-grid in
-    fulfil-sheet _ _ _ (read .result) (read .ensures) (free told) (passed sound) (caps .result) (caps .ensures) (wants .wants-of .result)
-    (wants .wants-of .ensures) (lent-room _ _ _ (passed sound)) _
-    (of-none _ _ _ (none .if1 .left) (grant .grant .ensures _ (terms .terms-of .ensures .1 (caps .result)))) _ _ (put .put-rows .ensures)
+    let wants = none .before .before .before in
+    let told = wants .before .before .terms-of .ensures .1 (asked wants .caps) in
+    fulfil-sheet _ _ _ (asked wants) _ (of-none _ _ _ (none .if1 .left) (none .before .grant .ensures _ told)) _ _ (put .put-rows .ensures)
 
 pub fulfil-spec : {M : Type 1} → statement M
 fulfil-spec =
