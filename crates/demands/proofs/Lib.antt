@@ -5,5 +5,6 @@ pub mod Marked
 pub mod Fairness
 pub mod Better
 pub mod Standard
+pub mod Wanted
 -- the three demands, and what stands behind them
 pub mod Theorems

@@ -33,4 +33,5 @@ first =
       listing = λ file before after r h. h;
       better = λ f g r h. (h .defined, h .whose);
       handed-back = handed-back;
+      fulfil = λ file row before after r h. h;
     }

@@ -1,13 +1,17 @@
--- The three demands hold, and so does what is said of the better of two and of the standard sheet. The statements are in
--- specs/Demands.antt; nothing is assumed.
+-- The three demands hold, and so does what is said of the better of two, of the standard sheet and of wanted totals. The statements are
+-- in specs/Demands.antt; nothing is assumed.
+use Rattle.model.specs.Book.{instanceOf}
 use Rattle.model.proofs.Theorems.{highest-list-exists, highest-lists-equal, standard-exists, standard-one}
-use Rattle.demands.specs.Demands.{Demand1, Demand2, Demand3, BetterOfTwo, OneStandardSheet}
+use Rattle.wants.specs.Wanted.{want}
+use Rattle.wants.proofs.Theorems as wants
+use Rattle.demands.specs.Demands.{Demand1, Demand2, Demand3, BetterOfTwo, OneStandardSheet, SheetOrGroup}
 use Rattle.demands.proofs.Outcomes.{first}
 use Rattle.demands.proofs.Documents.{lawful-frugal, wasteful-not-non-wasteful}
 use Rattle.demands.proofs.Files.{reads-back, same-bytes}
 use Rattle.demands.proofs.Better.{inside, same-sheet, not-lower, passes}
 use Rattle.demands.proofs.Fairness.{passes-exactly, passing-highest, fails, planned, planned-passes}
 use Rattle.demands.proofs.Standard as standard
+use Rattle.demands.proofs.Wanted.{sheet-read}
 
 -- each call gives a defined outcome or a numbered refusal, and a refusal changes no byte
 pub demand-1 : Demand1
@@ -43,3 +47,13 @@ better-of-two = record { inside = inside; same-sheet = same-sheet; not-lower = n
 -- a book has one standard sheet, and what the planner writes is the same, whatever the buffer
 pub one-standard-sheet : OneStandardSheet
 one-standard-sheet = record { there = standard-exists; no-other = standard-one; same-plan = standard.same-plan }
+
+-- of any book and row of wanted totals there is a sheet or a group, never both; and what a reply of a sheet leaves reads back as one
+pub sheet-or-group : SheetOrGroup
+sheet-or-group =
+    record {
+      one-is = λ b row. wants.sheet-or-group b (want row);
+      not-both = λ b row. wants.never-both b (want row);
+      not-empty = λ b row. wants.not-empty (instanceOf b) (want row);
+      reads-back = sheet-read;
+    }

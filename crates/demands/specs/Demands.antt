@@ -1,6 +1,7 @@
 -- The three demands, each as one statement over the contracts of the public calls: the reader's `Reads`, the writer's `WritesDay`, the
--- marker's `Marks`, the planner's `Plans`, the listing's `Lists`, and of the better of two `Chooses` and `HandsBack`. Behind them stands
--- what the better of two and the standard sheet mean to their reader. Proved in proofs/Theorems.antt.
+-- marker's `Marks`, the planner's `Plans`, the listing's `Lists`, of the better of two `Chooses` and `HandsBack`, and of wanted totals
+-- `Fulfils`. Behind them stands what the better of two, the standard sheet and wanted totals mean to their reader. Proved in
+-- proofs/Theorems.antt.
 use mathlib.Core.Path.{_≡_}
 use mathlib.Core.List.{List, []}
 use mathlib.Core.Logic.{_↔_, _⊎_}
@@ -19,7 +20,8 @@ use Rattle.dayfile.specs.declared.Reading.{Reading}
 use Rattle.dayfile.specs.declared.Written.{Written}
 use Rattle.dayfile.specs.declared.Written.the-variants.{Whole}
 use Rattle.dayfile.specs.Layout.{bookOf, sheetOf, seatsIn, windowsIn, gridAt, sheetStart, sheetSize, sheetBody, Bytes}
-use Rattle.dayfile.specs.Table.{Refusal, readLines, writeLines, markLines, planLines, betterLines, bufferLines, plannedLength, movesRoom}
+use Rattle.dayfile.specs.Table.{Refusal, readLines, writeLines, markLines, planLines, betterLines, fulfilLines, bufferLines}
+use Rattle.dayfile.specs.Table.{plannedLength, movesRoom}
 use Rattle.dayfile.specs.Outcome.{answer, readFile, NoneHolds, FirstHolds, Defined}
 use Rattle.dayfile.specs.Memory.{dayBook, daySheet, fileIn, front, written, reading, Reads, WritesDay}
 use Rattle.listing.specs.Listing.{listingMax}
@@ -30,6 +32,10 @@ use Rattle.marker.specs.Marking.{markedSheet, BufferAfter, Marks, movesIn, Pass
 use Rattle.planner.specs.Planning.{Planned, Plans}
 use Rattle.choice.specs.declared.Choice.{Choice}
 use Rattle.better.specs.Choice.{Side, other, fileOn, listOf, Chosen, sideOf, SaysWhose, Chooses, HandsBack}
+use Rattle.reply.specs.declared.Reply.{Reply}
+use Rattle.reply.specs.declared.Reply.the-variants as variants
+use Rattle.wants.specs.Wanted.{want, Gives, Fulfillable, Overasks}
+use Rattle.fulfil.specs.Fulfilling.{replied, Right, IsSheet, Fulfils}
 
 -- ---- Demand 1: each call gives a defined outcome or a numbered refusal, and a refusal changes no byte.
 
@@ -61,6 +67,11 @@ pub record Demand1 : Type 0 where
   pub handed-back : (f g part : List ℕ) → HandsBack f g part →
       ((q : Refusal) → FirstHolds (betterLines f g) q → part ≡ [])
       × (NoneHolds (betterLines f g) → (side : Side) × (Chosen f g side × (part ≡ sheetBody (fileOn side f g))))
+  -- the reply to wanted totals is a sheet, whose body stands at the buffer's front, or a group, and then the buffer is as it was; it is a
+  -- sheet exactly when there is one
+  pub fulfil : (file row before after : List ℕ) (r : Reply) → Fulfils file row before after r →
+      Defined (fulfilLines file row (length before)) before after (replied r)
+      (λ x. Right file row before after x × (IsSheet x ↔ Fulfillable (bookOf file) (want row)))
 
 -- ---- Demand 2: lawful and wasteful are document 000's frugal and not non-wasteful; files written read back the same, and an accepted file
 -- written again has the same bytes.
@@ -172,3 +183,16 @@ pub record OneStandardSheet : Type 0 where
       Plans file before after r → Plans file before′ after′ r′ →
       (r ≡ Whole (plannedLength (bookOf file))) × ((r′ ≡ r)
       × (take (plannedLength (bookOf file)) after ≡ take (plannedLength (bookOf file)) after′))
+
+-- ---- From wanted totals to a sheet (paper 02, E7), for its reader
+
+pub record SheetOrGroup : Type 0 where
+  -- of any book and row exactly one of the two kinds of reply is possible: a lawful sheet with just those totals, or a group of seats that
+  -- wants more than it can get
+  pub one-is : (b : Book) (row : List ℕ) → Fulfillable b (want row) ⊎ ((g : ℕ) × Overasks (instanceOf b) (want row) g)
+  pub not-both : (b : Book) (row : List ℕ) → Fulfillable b (want row) → (g : ℕ) → Overasks (instanceOf b) (want row) g → ⊥
+  -- a group is never empty, so that 0 can stand for none
+  pub not-empty : (b : Book) (row : List ℕ) → Overasks (instanceOf b) (want row) 0 → ⊥
+  -- the bytes at the buffer's front that a sheet's reply tells, read cell by cell, are such a sheet
+  pub reads-back : (file row before after : List ℕ) (n : ℕ) → Fulfils file row before after (variants.Sheet n) →
+      Gives (bookOf file) (want row) (gridAt (take n after) 0 (seatsIn file) (windowsIn file))
