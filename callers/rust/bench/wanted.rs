@@ -1,12 +1,13 @@
 //! Times of the call that looks for a sheet with wanted totals.
 //!
-//! The library has no call that plans without the standard sheet. What its plan takes without that is taken to be its plan's time, less
-//! the share that the standard sheet has of the plan in plain Rust of the same method: library's plan x settled alone / plain Rust's plan.
-//! These three are timed on the same file, in turn with the others.
+//! The library has no call that plans without the standard sheet. What its plan takes without that, "settled plan", is taken to be its
+//! plan's time less the share that the standard sheet has of the plan in plain Rust of the same method: the library's plan x settled alone
+//! / plain Rust's plan. These three are timed on the same file, in turn with the others. For books of one class it can be measured too:
+//! with nothing wanted the library settles them as its plan does, and a table puts that beside.
 
 use std::hint::black_box;
 
-use super::books::{self, file_of, planned, spoilt, windows_alone, Draw, KINDS};
+use super::books::{self, file_of, planned, spoilt, windows_alone, KINDS};
 use super::credits::raw;
 use super::reference::{self, Book, Fulfilled, Wants, SEATS, WINDOWS};
 use super::rng::Rng;
@@ -71,13 +72,13 @@ pub fn fulfillers<'a>(file: &'a [u8], row: &'a [u8]) -> Vec<Call<'a>> {
     ]
 }
 
-/// All calls on books of one kind and size with wanted totals of one kind, the plans of the same books, and what these take without the
-/// standard sheet.
-fn times(draw: Draw, hand: Hand, (seats, windows): (usize, usize)) -> Times {
+/// All calls on books that are drawn, with wanted totals of one kind; the plans of the same books; and what these take without the standard
+/// sheet.
+fn times(draw: impl Fn(&mut Rng) -> Book, hand: Hand) -> Times {
     let mut rng = Rng::new(7);
     let mut times = Times::default();
     for _ in 0..BOOKS {
-        let book = draw(&mut rng, seats, windows);
+        let book = draw(&mut rng);
         let row = row_of(&book, &hand(&mut rng, &book));
         let file = file_of(&book, None);
         let mut calls = fulfillers(&file, &row);
@@ -93,7 +94,7 @@ pub fn table(csv: &mut String) {
     heading("fulfil, 32 seats, 24 windows", &NAMES);
     let mut ratios = [(); 3].map(|()| Vec::new());
     for ((wants, hand, _), (kind, draw)) in WANTS.iter().flat_map(|wants| KINDS.map(|kind| (wants, kind))) {
-        let times = times(draw, *hand, (32, 24));
+        let times = times(|rng| draw(rng, 32, 24), *hand);
         line(csv, "fulfil", &format!("{wants}: {kind}"), &NAMES, &times);
         let medians = times.medians();
         ratios.iter_mut().zip([1, 3, 4]).for_each(|(ratios, column)| ratios.push(medians[0] / medians[column]));
@@ -106,13 +107,24 @@ pub fn table(csv: &mut String) {
     println!("and in {settled} times what that plan takes without the standard sheet.");
     println!("{}", agreement());
     count_settling();
+    settled_table(csv);
+}
+
+/// The library settles books of one class as its plan does, by a row of zeros: what the last column should say.
+fn settled_table(csv: &mut String) {
+    heading("one class, nothing wanted", &NAMES);
+    for (kind, draw) in KINDS {
+        let one_class = |rng: &mut Rng| Book { classes: [1; SEATS], ..draw(rng, 32, 24) };
+        line(csv, "settled", kind, &NAMES, &times(one_class, |_, _| [0; SEATS]));
+    }
 }
 
 /// Fulfilling as books grow, a quarter filled: the number that grows, and the size of the book.
 pub fn growth_table(csv: &mut String, table: &str, title: &str, sizes: impl Iterator<Item = (usize, (usize, usize))>) {
     heading(title, &NAMES);
-    for (case, size) in sizes {
-        line(csv, table, &case.to_string(), &NAMES, &times(books::quarter, of_a_sheet, size));
+    for (case, (seats, windows)) in sizes {
+        let times = times(|rng| books::quarter(rng, seats, windows), of_a_sheet);
+        line(csv, table, &case.to_string(), &NAMES, &times);
     }
 }
 
