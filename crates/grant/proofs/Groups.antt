@@ -1,5 +1,5 @@
 -- Groups that want more than they can get: one seat, and whom a short seat reaches on a settled sheet. Assumes nothing.
-use mathlib.Core.Path.{_≡_, refl, sym, ap, subst}
+use mathlib.Core.Path.{_≡_, refl, sym, ap, subst, _∙_}
 use mathlib.Core.Logic.{_↔_, inl, inr}
 use mathlib.Core.List.{List}
 use Prim.Native.Nat.{ℕ, zero, suc, min, _≤_, _<_}
@@ -25,7 +25,8 @@ use Rattle.dayfile.specs.declared.Found.{Found}
 use Rattle.dayfile.specs.declared.Found.the-variants.{At, Nothing}
 use Rattle.instance.specs.declared.Terms.{Terms}
 use Rattle.instance.specs.Terms.{instanceIn, Told, Ranged, Small}
-use Rattle.instance.proofs.Told.{shows-itself}
+use Rattle.instance.proofs.Told.{shows-itself, shown-alike, shown-feasible}
+use Rattle.fairness.proofs.Alike.{alike-feasible}
 use Rattle.reach.specs.declared.Graph.{Graph}
 use Rattle.reach.specs.Graphs.{Reached}
 use Rattle.paths.specs.Steps.{Drawn}
@@ -34,7 +35,7 @@ use Rattle.exchange.specs.Graphs.{Shown}
 use Rattle.exchange.proofs.Drawing.{drawn, drawn-told}
 use Rattle.wants.specs.Wanted.{Overasks}
 use Rattle.wants.specs.Steps.{mostTotal, Short, trimmed}
-use Rattle.grant.specs.Steps.{IfGroup, NoneAlone, NoneShort, Reaches}
+use Rattle.grant.specs.Steps.{IfGroup, NoneAlone, NoneShort, Reaches, Enough}
 
 -- ---- a group, or none
 
@@ -96,40 +97,39 @@ module _ (I : Instance) (wants : ℕ → ℕ) (S : Sheet) (small : (i : ℕ) →
           let w = h .reached l .0 p in
           reached-most I wants mostTotal S small settled (h .seat) (h .in-seats) (h .short) (w .0) l ll (w .1)
 
-  -- nobody is short: a sheet cut to the wants
-  pub cut-grants : (T : Sheet) → NoneShort I S wants → ((i j : ℕ) → i < I .seats → j < I .windows → trimmed (wants i) (S i) j ≡ T i j) →
-      Grants I wants T
-  unfolding trim
-  cut-grants T enough same = same-cells I wants (trim wants S) T same (wanted-sheet I wants S feasible enough)
+-- nobody is short: a sheet cut to the wants
+pub cut-grants : (I : Instance) (wants : ℕ → ℕ) (S T : Sheet) → Enough I S wants →
+    ((i j : ℕ) → i < I .seats → j < I .windows → trimmed (wants i) (S i) j ≡ T i j) → Grants I wants T
+unfolding trim
+cut-grants I wants S T e same = same-cells I wants (trim wants S) T same (wanted-sheet I wants S (e .feasible) (e .none-short))
 
 -- ---- numbers in memory
 
 -- what the look for a short seat tells
-module _ (n m : ℕ) (grid : Grid) (wants : List ℕ) (r : Found) (h : Short n m grid wants r) where
-  pub short-at : (i : ℕ) → r ≡ At i → (i < n) × (sum m (λ j. cell grid i j) < getD wants i 0)
-  short-at i e = subst (Short n m grid wants) e h
+module _ (n : ℕ) (totals wants : List ℕ) (r : Found) (h : Short n totals wants r) where
+  pub short-at : (i : ℕ) → r ≡ At i → (i < n) × (getD totals i 0 < getD wants i 0)
+  short-at i e = subst (Short n totals wants) e h
 
-  pub none-short : r ≡ Nothing → (i : ℕ) → i < n → getD wants i 0 ≤ sum m (λ j. cell grid i j)
-  none-short e = subst (Short n m grid wants) e h
+  pub none-short : r ≡ Nothing → (i : ℕ) → i < n → getD wants i 0 ≤ getD totals i 0
+  none-short e = subst (Short n totals wants) e h
 
 module _ (t : Terms) (caps : Grid) (I : Instance) (told : Told I t caps) (wants : List ℕ) where
-  module _ (most : Grid)
-      (made : (i j : ℕ) → i < t .seats → j < t .windows → cell most i j ≡ min (getD (t .supplies) j 0) (cell caps i j)) where
+  module _ (totals : List ℕ)
+      (are : (i : ℕ) → i < t .seats → getD totals i 0 ≡ sum (t .windows) (λ j. min (getD (t .supplies) j 0) (cell caps i j))) where
     -- what a seat can get alone
-    alone-same : (i : ℕ) → i < t .seats →
-        sum (t .windows) (λ j. cell most i j) ≡ sum (I .windows) (λ j. min (I .supply j) (I .cap i j))
+    alone-same : (i : ℕ) → i < t .seats → getD totals i 0 ≡ sum (I .windows) (λ j. min (I .supply j) (I .cap i j))
     alone-same i li =
-        rw (told .windows-are)
-        (sum-eq (t .windows) _ _ (λ j lj. omega (arith, made i j li lj, told .supplies-are j lj, told .caps-are i j li lj)))
+        are i li
+        ∙ rw (told .windows-are)
+        (sum-eq (t .windows) _ _ (λ j lj. omega (arith, told .supplies-are j lj, told .caps-are i j li lj)))
 
-    pub alone-found : (i g : ℕ) → (i < t .seats) × (sum (t .windows) (λ j. cell most i j) < getD wants i 0) → Inserted 0 i g →
+    pub alone-found : (i g : ℕ) → (i < t .seats) × (getD totals i 0 < getD wants i 0) → Inserted 0 i g →
         IfGroup g (Overasks I (λ k. getD wants k 0) g) (NoneAlone I (λ k. getD wants k 0))
     alone-found i g h ins =
         some-group _ _ g (λ e. omega (arith, in-pos g i (ins .here)))
         (alone-group I (λ k. getD wants k 0) i g (omega (arith, told .seats-are, h .0)) ins (omega (arith, alone-same i (h .0), h .1)))
 
-    pub alone-none : ((i : ℕ) → i < t .seats → getD wants i 0 ≤ sum (t .windows) (λ j. cell most i j)) →
-        NoneAlone I (λ k. getD wants k 0)
+    pub alone-none : ((i : ℕ) → i < t .seats → getD wants i 0 ≤ getD totals i 0) → NoneAlone I (λ k. getD wants k 0)
     alone-none h i li =
         let seat : i < t .seats = omega (arith, told .seats-are) in omega (arith, alone-same i seat, h i seat)
 
@@ -144,20 +144,20 @@ module _ (t : Terms) (caps : Grid) (I : Instance) (told : Told I t caps) (wants 
       cap-small : (j : ℕ) → j < t .windows → i < t .seats → min (I .supply j) (I .cap i j) ≤ 4095
       cap-small j lj seat = omega (arith, told .caps-are i j seat lj, small .caps-most i j seat lj)
 
-  module _ (grid : Grid) where
-    total-same : (i : ℕ) → total I (cell grid) i ≡ sum (t .windows) (λ j. cell grid i j)
-    total-same i = ap (λ (m : ℕ). sum m (λ j. cell grid i j)) (told .windows-are)
+  module _ (grid : Grid) (totals : List ℕ) (are : (i : ℕ) → i < t .seats → getD totals i 0 ≡ sum (t .windows) (λ j. cell grid i j)) where
+    total-same : (i : ℕ) → i < t .seats → getD totals i 0 ≡ total I (cell grid) i
+    total-same i li = are i li ∙ ap (λ (m : ℕ). sum m (λ j. cell grid i j)) (sym (told .windows-are))
 
     -- whom a short seat reaches in the graph of the grid
     pub reached-found : (graph : Graph) → Shown (instanceIn t caps) (cell grid) graph → (i g : ℕ) →
-        (i < t .seats) × (sum (t .windows) (λ j. cell grid i j) < getD wants i 0) → ((l : ℕ) → In l g ↔ Reached graph i l) →
+        (i < t .seats) × (getD totals i 0 < getD wants i 0) → ((l : ℕ) → In l g ↔ Reached graph i l) →
         IfGroup g (Reaches I (cell grid) (λ k. getD wants k 0) g) (NoneShort I (cell grid) (λ k. getD wants k 0))
     reached-found graph shown i g h reaches =
         some-group _ _ g (λ e. omega (arith, in-pos g i (reaches i .1 (0, refl))))
         (record {
           seat = i;
           in-seats = omega (arith, told .seats-are, h .0);
-          short = omega (arith, total-same i, h .1);
+          short = omega (arith, total-same i (h .0), h .1);
           reached = λ l. (
             λ p. let r = reaches l .0 p in (r .0, reach-within I (cell grid) graph draws (r .0) i l (r .1)),
             λ w. reaches l .1 (w .0, within-reach I (cell grid) graph draws (w .0) i l (w .1)),
@@ -167,38 +167,55 @@ module _ (t : Terms) (caps : Grid) (I : Instance) (told : Told I t caps) (wants 
         draws : Drawn I (cell grid) graph
         draws = drawn-told t caps grid I (cell grid) told (shows-itself t grid) graph (drawn (instanceIn t caps) (cell grid) graph shown)
 
-    pub reached-none : ((i : ℕ) → i < t .seats → getD wants i 0 ≤ sum (t .windows) (λ j. cell grid i j)) →
-        NoneShort I (cell grid) (λ k. getD wants k 0)
-    reached-none h i li = omega (arith, total-same i, h i (omega (arith, told .seats-are)))
+    pub reached-none : ((i : ℕ) → i < t .seats → getD wants i 0 ≤ getD totals i 0) → NoneShort I (cell grid) (λ k. getD wants k 0)
+    reached-none h i li = let seat : i < t .seats = omega (arith, told .seats-are) in omega (arith, total-same i seat, h i seat)
+
+-- ---- terms that aim at wants
+
+module _ (t u : Terms) (caps : Grid) (wants : ℕ → ℕ) (told : Told (aimed (instanceIn t caps) wants mostTotal) u caps) where
+  -- they are as small
+  pub small-aimed : Small t caps → Ranged u → Small u caps
+  small-aimed small ranged =
+      record {
+        ranged = ranged;
+        caps-most = λ i j li lj. small .caps-most i j (omega (arith, told .seats-are)) (omega (arith, told .windows-are));
+      }
+
+  -- and have the same sheets
+  pub feasible-aimed : (grid : Grid) → Feasible (instanceIn t caps) (cell grid) → Feasible (instanceIn u caps) (cell grid)
+  feasible-aimed grid f =
+      shown-feasible u caps (aimed (instanceIn t caps) wants mostTotal) told (cell grid) grid (shows-itself u grid)
+      (record { within = f .within; fits = f .fits })
 
 -- ---- the reply
 
--- terms that aim at wants are as small
-pub small-aimed : (t u : Terms) (caps : Grid) (wants : ℕ → ℕ) → Small t caps → Ranged u →
-    Told (aimed (instanceIn t caps) wants mostTotal) u caps → Small u caps
-small-aimed t u caps wants small ranged told =
-    record {
-      ranged = ranged;
-      caps-most = λ i j li lj. small .caps-most i j (omega (arith, told .seats-are)) (omega (arith, told .windows-are));
-    }
-
-module _ (t : Terms) (caps : Grid) (I : Instance) (told : Told I t caps) (small : Small t caps) (wants : List ℕ) where
+module _ (t : Terms) (caps : Grid) (I : Instance) (told : Told I t caps) (wants : List ℕ) where
   abbrev w : ℕ → ℕ
   w k = getD wants k 0
 
-  module _ (a : ℕ) (alone : IfGroup a (Overasks I w a) (NoneAlone I w)) where
-    pub granted-alone : (a ≡ 0 → ⊥) → (T : Sheet) → IfGroup a (Overasks I w a) (Grants I w T)
-    granted-alone pos T = some-group _ _ a pos (of-group _ (NoneAlone I w) a pos alone)
+  -- a sheet that leaves nobody short
+  pub served-enough : (grid : Grid) → Feasible (instanceIn t caps) (cell grid) → NoneShort I (cell grid) w → Enough I (cell grid) w
+  served-enough grid f none =
+      record {
+        feasible = alike-feasible (instanceIn t caps) I (cell grid) (cell grid)
+            (shown-alike t caps I told (cell grid) grid (shows-itself t grid)) f;
+        none-short = none;
+      }
 
-    module _ (none : a ≡ 0) (S : Sheet) (settled : Settled (aimed I w mostTotal) S) (g : ℕ)
-        (left : IfGroup g (Reaches I S w g) (NoneShort I S w)) where
-      few : (i : ℕ) → i < I .seats → w i ≤ mostTotal
-      few = alone-small t caps I told wants small (of-none (Overasks I w a) _ a none alone)
+  -- a settled sheet
+  module _ (small : (i : ℕ) → i < t .seats → w i ≤ mostTotal) (S : Sheet) (settled : Settled (aimed I w mostTotal) S) (g : ℕ)
+      (left : IfGroup g (Reaches I S w g) (NoneShort I S w)) where
+    pub settled-enough : IfGroup g (Overasks I w g) (Enough I S w)
+    settled-enough = go g left
+      where
+        few : (i : ℕ) → i < I .seats → w i ≤ mostTotal
+        few i li = small i (omega (arith, told .seats-are))
 
-      pub granted-reached : (g ≡ 0 → ⊥) → (T : Sheet) → IfGroup g (Overasks I w g) (Grants I w T)
-      granted-reached pos T = some-group _ _ g pos (reached-group I w S few settled g (of-group _ (NoneShort I S w) g pos left))
+        go : (g : ℕ) → IfGroup g (Reaches I S w g) (NoneShort I S w) → IfGroup g (Overasks I w g) (Enough I S w)
+        go zero none = record { feasible = aimed-feasible I w mostTotal S (settled .feasible); none-short = none }
+        go (suc k) reaches = reached-group I w S few settled (suc k) reaches
 
-      pub granted-sheet : g ≡ 0 → (T : Sheet) → ((i j : ℕ) → i < t .seats → j < t .windows → T i j ≡ trimmed (w i) (S i) j) → Grants I w T
-      granted-sheet e T same =
-          cut-grants I w S few settled T (of-none (Reaches I S w g) _ g e left)
-          (λ i j li lj. sym (same i j (omega (arith, told .seats-are)) (omega (arith, told .windows-are))))
+  pub granted-sheet : (S T : Sheet) → Enough I S w → ((i j : ℕ) → i < t .seats → j < t .windows → T i j ≡ trimmed (w i) (S i) j) →
+      Grants I w T
+  granted-sheet S T e same =
+      cut-grants I w S T e (λ i j li lj. sym (same i j (omega (arith, told .seats-are)) (omega (arith, told .windows-are))))

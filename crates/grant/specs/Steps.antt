@@ -3,7 +3,7 @@
 use mathlib.Core.Logic.{_↔_}
 use Prim.Native.Nat.{ℕ, zero, suc, min, _≤_, _<_}
 use Rattle.fairness.specs.Sums.{sum}
-use Rattle.fairness.specs.Instance.{Instance, Sheet, total}
+use Rattle.fairness.specs.Instance.{Instance, Sheet, Feasible, total}
 use Rattle.fairness.specs.Layers.{Within}
 use Rattle.masks.specs.Sets.{In}
 
@@ -26,3 +26,8 @@ pub record Reaches (I : Instance) (S : Sheet) (wants : ℕ → ℕ) (group : ℕ
   pub in-seats : seat < I .seats
   pub short : total I S seat < wants seat
   pub reached : (l : ℕ) → In l group ↔ ((r : ℕ) × Within I S r seat l)
+
+-- a feasible sheet on which every seat has what it wants or more
+pub record Enough (I : Instance) (S : Sheet) (wants : ℕ → ℕ) : Type 0 where
+  pub feasible : Feasible I S
+  pub none-short : NoneShort I S wants

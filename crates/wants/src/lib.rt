@@ -1,11 +1,12 @@
 // Wanted totals in memory: a row of them read, the terms that aim at them, which seat has too little, and a sheet cut down to them.
 ghost use mathlib.Core.Path.{_≡_};
-ghost use Prim.Native.Nat.{ℕ, min, _-_, _≤_, _<_};
+ghost use Prim.Native.Nat.{ℕ, min, _+_, _-_, _≤_, _<_};
 ghost use lib.ListN.{getD};
-ghost use Rattle.fairness.specs.Instance.{Instance};
+ghost use Rattle.fairness.specs.Sums.{sum};
+ghost use Rattle.fairness.specs.Instance.{Instance, Feasible};
 ghost use Rattle.fairness.specs.Aiming.{aimed};
 ghost use Rattle.model.specs.Book.{Grid, cell};
-ghost use Rattle.instance.specs.Terms.{Told, Ranged};
+ghost use Rattle.instance.specs.Terms.{instanceIn, Told, Ranged};
 ghost use Rattle.wants.specs.Wanted.{want};
 ghost use Rattle.wants.specs.Steps.{mostTotal, Short, trimmed};
 use dayfile::Found;
@@ -78,42 +79,53 @@ pub fn aim(t: Terms, wants: [u32; 32]) -> Terms
     }
 }
 
-// What a seat alone can get in each window: the lesser of supply and cap.
-fn alone_row(supplies: [u16; 24], row: &[u16; 24], windows: usize) -> [u16; 24]
+// What a seat alone can get: over the windows, the lesser of supply and cap.
+fn alone_total(supplies: &[u16; 24], row: &[u16; 24], windows: usize) -> u32
     requires { ⌜ windows ≤ 24 ⌝ }
-    ensures { λ r. ⌜ ((j : ℕ) → j < windows → getD r j 0 ≡ min (getD supplies j 0) (getD (now (row .entry)) j 0)) ⌝ }
+    ensures { λ r. ⌜ r ≡ sum windows (λ j. min (getD (now (supplies .entry)) j 0) (getD (now (row .entry)) j 0)) ⌝ }
 {
-    let mut most = [0u16; 24];
+    let mut total: u32 = 0;
     for w in 0..windows {
-        most[w] = lesser(supplies[w], row[w]);
+        total += lesser(supplies[w], row[w]) as u32;
     }
-    most
+    total
 }
 
 // The same for each seat.
-pub fn alone(t: Terms, caps: &Caps) -> Caps
+pub fn alone_totals(t: Terms, caps: &Caps) -> [u32; 32]
     requires { ⌜ (t .seats ≤ 32) × (t .windows ≤ 24) ⌝ }
-    ensures { λ r. ⌜ ((i j : ℕ) → i < t .seats → j < t .windows →
-        cell r i j ≡ min (getD (t .supplies) j 0) (cell (now (caps .entry)) i j)) ⌝ }
+    ensures { λ r. ⌜ ((i : ℕ) → i < t .seats →
+        getD r i 0 ≡ sum (t .windows) (λ j. min (getD (t .supplies) j 0) (cell (now (caps .entry)) i j))) ⌝ }
 {
     let seats = t.seats;
     let windows = t.windows;
     let supplies = t.supplies;
-    let mut most = [[0u16; 24]; 32];
+    let mut totals = [0u32; 32];
     for i in 0..seats {
-        let row = alone_row(supplies, &caps[i], windows);
-        most[i] = row;
+        totals[i] = alone_total(&supplies, &caps[i], windows);
     }
-    most
+    totals
 }
 
-// The first seat that has less than it wants.
-pub fn first_short(grid: &Caps, wants: [u32; 32], seats: usize, windows: usize) -> Found
+// Each seat's total.
+pub fn totals(grid: &Caps, seats: usize, windows: usize) -> [u32; 32]
     requires { ⌜ (seats ≤ 32) × (windows ≤ 24) ⌝ }
-    ensures { λ r. ⌜ Short seats windows (now (grid .entry)) wants r ⌝ }
+    ensures { λ r. ⌜ ((i : ℕ) → i < seats → getD r i 0 ≡ sum windows (λ j. cell (now (grid .entry)) i j)) ⌝ }
+{
+    let mut totals = [0u32; 32];
+    for i in 0..seats {
+        totals[i] = row_total(&grid[i], windows);
+    }
+    totals
+}
+
+// The first seat whose total is below what it wants.
+pub fn first_short(totals: [u32; 32], wants: [u32; 32], seats: usize) -> Found
+    requires { ⌜ seats ≤ 32 ⌝ }
+    ensures { λ r. ⌜ Short seats totals wants r ⌝ }
 {
     for i in 0..seats {
-        if row_total(&grid[i], windows) < wants[i] {
+        if totals[i] < wants[i] {
             return Found::At(i);
         }
     }
@@ -131,22 +143,53 @@ fn kept(cell: u16, left: u32) -> u16
     }
 }
 
-// The first credits of a row, as many as are wanted.
-fn trim_row(row: &[u16; 24], want: u32, windows: usize) -> [u16; 24]
+// What a want takes of the lesser of two rows, window by window.
+fn take_row(left: &[u16; 24], most: &[u16; 24], want: u32, windows: usize) -> [u16; 24]
     requires { ⌜ windows ≤ 24 ⌝ }
-    ensures { λ r. ⌜ ((j : ℕ) → j < windows → getD r j 0 ≡ trimmed want (λ k. getD (now (row .entry)) k 0) j) ⌝ }
+    ensures { λ r. ⌜ ((j : ℕ) → j < windows →
+        getD r j 0 ≡ trimmed want (λ k. min (getD (now (left .entry)) k 0) (getD (now (most .entry)) k 0)) j) ⌝ }
 {
     let mut cells = [0u16; 24];
-    let mut left = want;
+    let mut missing = want;
     for w in 0..windows {
-        let cell = kept(row[w], left);
+        let cell = kept(lesser(left[w], most[w]), missing);
         cells[w] = cell;
-        left -= cell as u32;
+        missing -= cell as u32;
     }
     cells
 }
 
-// The same of each seat's row.
+// What a row leaves of another.
+fn less_row(mut left: [u16; 24], row: &[u16; 24], windows: usize) -> [u16; 24]
+    requires { ⌜ windows ≤ 24 ⌝ }
+    requires { ⌜ ((j : ℕ) → j < windows → getD (now row) j 0 ≤ getD left j 0) ⌝ }
+    ensures { λ r. ⌜ ((j : ℕ) → j < windows → getD r j 0 + getD (now (row .entry)) j 0 ≡ getD left j 0) ⌝ }
+{
+    for w in 0..windows {
+        left[w] -= row[w];
+    }
+    left
+}
+
+// The seats served in turn: each takes what it wants, as far as its caps and what those before it left allow.
+pub fn serve(t: Terms, caps: &Caps, wants: [u32; 32]) -> Caps
+    requires { ⌜ (t .seats ≤ 32) × (t .windows ≤ 24) ⌝ }
+    ensures { λ r. ⌜ Feasible (instanceIn t (now (caps .entry))) (cell r) ⌝ }
+{
+    let seats = t.seats;
+    let windows = t.windows;
+    let mut left = t.supplies;
+    let mut grid = [[0u16; 24]; 32];
+    for i in 0..seats {
+        let row = take_row(&left, &caps[i], wants[i], windows);
+        grid[i] = row;
+        let rest = less_row(left, &row, windows);
+        left = rest;
+    }
+    grid
+}
+
+// The first credits of each seat's row, as many as it wants.
 pub fn trim(grid: &Caps, wants: [u32; 32], seats: usize, windows: usize) -> Caps
     requires { ⌜ (seats ≤ 32) × (windows ≤ 24) ⌝ }
     ensures { λ r. ⌜ ((i j : ℕ) → i < seats → j < windows →
@@ -154,7 +197,7 @@ pub fn trim(grid: &Caps, wants: [u32; 32], seats: usize, windows: usize) -> Caps
 {
     let mut sheet = [[0u16; 24]; 32];
     for i in 0..seats {
-        let row = trim_row(&grid[i], wants[i], windows);
+        let row = take_row(&grid[i], &grid[i], wants[i], windows);
         sheet[i] = row;
     }
     sheet

@@ -1,37 +1,29 @@
 -- `wants::first_short` meets its contract: each turn passes one seat that has what it wants.
 use borrow.Author.Needs.{needs}
-use mathlib.Core.Path.{_≡_}
 use Prim.Native.Nat.{ℕ, _-_, _≤_, _<_}
 use native.Mathlib.Decide.{ℕ-discrete}
 use native.Mathlib.Omega.{arith}
 use lib.ListN.{getD}
-use Rattle.fairness.specs.Sums.{sum}
-use Rattle.model.specs.Book.{cell}
 use Rattle.wants.proofs.first_short.Statement.{statement}
 use Rattle.wants.proofs.first_short.Tie as tie
 
 abbrev Inv-loop : tie.InvT-loop
-Inv-loop grid seats windows wants i₀ i =
-    (i ≤ seats) × ((k : ℕ) → k < i → getD wants k 0 ≤ sum windows (λ j. cell grid k j))
+Inv-loop seats totals wants i₀ i = (i ≤ seats) × ((k : ℕ) → k < i → getD wants k 0 ≤ getD totals k 0)
 
 abbrev μ-loop : tie.MeasureT-loop
-μ-loop grid seats windows wants i₀ i = seats - i
+μ-loop seats totals wants i₀ i = seats - i
 
 loop-holds : tie.Need-loop-holds Inv-loop μ-loop
 loop-holds c = (search needs, λ k l. absurd (omega arith))
 
 returns : tie.Need-returns Inv-loop μ-loop
-returns c = (search needs, omega (arith, c .before .row-total .ensures .0, c .if1 .taken))
+returns c = (search needs, c .if1 .taken)
 
 loop-again : tie.Need-loop-again Inv-loop μ-loop
 loop-again c =
-    let at = c .before .before .before .before .loop in (
+    let at = c .before .before .loop in (
       search needs,
-      λ k l.
-          elim (ℕ-discrete k (at .i)) [
-            | yes e ↦ rw e (omega (arith, c .before .row-total .ensures .0, c .if1 .left))
-            | no d ↦ at .inv .1 k (omega arith)
-          ],
+      λ k l. elim (ℕ-discrete k (at .i)) [ yes e ↦ rw e (c .if1 .left) | no d ↦ at .inv .1 k (omega arith) ],
     )
 
 returns-2 : tie.Need-returns-2 Inv-loop μ-loop
@@ -39,5 +31,4 @@ returns-2 c = let at = c .before .loop in λ k l. at .inv .1 k (omega (arith, c 
 
 pub first-short-spec : {M : Type 1} → statement M
 first-short-spec =
-    tie.close (tie.spec Inv-loop μ-loop loop-holds (λ c. search needs) (λ c. search needs) (λ c κs. search needs) (λ c. search needs)
-    (λ c. search needs) returns (λ c. search needs) (λ c. search needs) loop-again returns-2)
+    tie.close (tie.spec Inv-loop μ-loop loop-holds (λ c. search needs) (λ c. search needs) (λ c. search needs) (λ c. search needs) returns (λ c. search needs) (λ c. search needs) loop-again returns-2)
