@@ -1,9 +1,10 @@
 //! The library's way from wanted totals to a sheet in plain Rust, for the sake of its speed: the same steps in the same order, with
 //! nothing proved.
 //!
-//! The first seat that wants more than it could get alone is a group by itself. Otherwise the book is settled with all weights equal, where
-//! each seat starts from a height that is lower the more it wants, so that a seat stands at one height if it has just its want. The lowest
-//! seat that has less than its want is a group with all seats that it reaches. If there is none, each row is cut down to its want.
+//! The first seat that wants more than it could get alone is a group by itself. Otherwise the seats are served in turn. If one is left
+//! short, the book is settled from there with all weights equal, where each seat starts from a height that is lower the more it wants, so
+//! that a seat stands at one height if it has just its want. The lowest seat that then has less than its want is a group with all seats
+//! that it reaches. If there is none, each row is cut down to its want.
 
 use super::reference::{fulfil_by, Book, Fulfilled, Refusal, Sheet, Wants, MOST_CREDITS, WINDOWS};
 use super::same_method::Desk;
@@ -21,13 +22,38 @@ pub fn sheet_or_group(book: &Book, wants: &Wants) -> (Result<Sheet, u32>, [usize
     if let Some(seat) = (0..book.seats).find(|&seat| wants[seat] > most_alone(book, seat)) {
         return (Err(1 << seat), [0; 3]);
     }
-    let desk = Desk::settled_from(book, wants.map(|want| JUST - want as u64));
-    let totals = totals(&desk.grid);
-    let reply = match (0..book.seats).find(|&seat| totals[seat] < wants[seat]) {
+    let served = serve(book, wants);
+    if short(&served, wants).is_none() {
+        return (Ok(cut_down(served, wants)), [0; 3]);
+    }
+    let totals = totals(&served);
+    let heights = std::array::from_fn(|seat| JUST - wants[seat] as u64 + totals[seat] as u64);
+    let desk = Desk::settled_from(book, served, heights);
+    let reply = match short(&desk.grid, wants) {
         Some(seat) => Err(desk.reached_by(seat)),
         None => Ok(cut_down(desk.grid, wants)),
     };
     (reply, desk.turns)
+}
+
+/// The first seat that has less than it wants.
+fn short(grid: &Sheet, wants: &Wants) -> Option<usize> {
+    totals(grid).iter().zip(wants).position(|(total, want)| total < want)
+}
+
+/// Each seat in turn takes what it wants, as far as its caps and what those before it left allow.
+fn serve(book: &Book, wants: &Wants) -> Sheet {
+    let mut left = book.supplies;
+    let mut grid = book.caps;
+    for (row, want) in grid.iter_mut().zip(wants) {
+        let mut missing = *want;
+        for (cell, left) in row.iter_mut().zip(&mut left) {
+            *cell = missing.min((*cell).min(*left) as u32) as u16;
+            missing -= *cell as u32;
+            *left -= *cell;
+        }
+    }
+    grid
 }
 
 /// What a seat can get if the others get nothing.

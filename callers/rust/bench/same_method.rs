@@ -92,10 +92,10 @@ impl<'a> Desk<'a> {
         Desk::new(book).run()
     }
 
-    /// Settled with all weights equal, seats that start from these heights, and ties that go by seat number.
-    pub fn settled_from(book: &'a Book, heights: [u64; SEATS]) -> Desk<'a> {
+    /// Settled from a sheet, with all weights equal, seats of these heights on that sheet, and ties that go by seat number.
+    pub fn settled_from(book: &'a Book, grid: Sheet, heights: [u64; SEATS]) -> Desk<'a> {
         let positions = std::array::from_fn(|seat| seat);
-        Desk { weights: [1; SEATS], positions, heights, ..Desk::new(book) }.run()
+        Desk { grid, weights: [1; SEATS], positions, heights, ..Desk::new(book) }.run()
     }
 
     fn run(mut self) -> Desk<'a> {
@@ -106,13 +106,13 @@ impl<'a> Desk<'a> {
         self
     }
 
-    /// Hands out every window, seat by seat up to each cap.
+    /// Hands out what is left of every window, seat by seat up to each cap.
     fn fill(&mut self) {
         for window in 0..self.book.windows {
-            let mut left = self.book.supplies[window];
+            let mut left = self.book.supplies[window] - self.grid.iter().map(|row| row[window]).sum::<u16>();
             for seat in 0..self.book.seats {
-                let credits = left.min(self.book.caps[seat][window]);
-                self.grid[seat][window] = credits;
+                let credits = left.min(self.room(seat, window));
+                self.grid[seat][window] += credits;
                 self.heights[seat] += credits as u64;
                 left -= credits;
             }
