@@ -85,13 +85,13 @@ fn draw_any(state: &mut u32) -> [u32; 4] {
 
 // What each of four seats wants: nothing; any small number; the most that it can get alone; the totals of a lawful sheet; and these, but
 // for one seat.
-pub fn draw_wants(state: &mut u32, s: Small) -> [u32; 4] {
-    let way = below(state, 10);
+fn draw_wants(state: &mut u32, s: Small) -> [u32; 4] {
+    let way = below(state, 16);
     match way {
         0 => [0u32; 4],
         1 | 2 => draw_any(state),
-        3 => [alone(s, 0), alone(s, 1), alone(s, 2), alone(s, 3)],
-        4 | 5 => draw_totals(state, s),
+        3 | 4 => [alone(s, 0), alone(s, 1), alone(s, 2), alone(s, 3)],
+        5 | 6 | 7 | 8 => draw_totals(state, s),
         _ => draw_odd(state, s),
     }
 }
@@ -103,7 +103,7 @@ fn put_want(row: &mut [u8], at: usize, x: u32) {
 }
 
 // The wants of four seats. A book with fewer has the front of this row.
-pub fn put_wants(row: &mut [u8], wants: [u32; 4]) {
+fn put_wants(row: &mut [u8], wants: [u32; 4]) {
     put_want(row, 0, wants[0]);
     put_want(row, 4, wants[1]);
     put_want(row, 8, wants[2]);
@@ -112,7 +112,7 @@ pub fn put_wants(row: &mut [u8], wants: [u32; 4]) {
 
 // A length about the right one: mostly that, or one less, one more, four more, or any that is small.
 pub fn draw_length(state: &mut u32, right: usize) -> usize {
-    let way = below(state, 20);
+    let way = below(state, 32);
     match way {
         0 => offset(state, ROW_ROOM),
         1 => std::num::wrapping_sub_usize(right, 1),
@@ -120,4 +120,10 @@ pub fn draw_length(state: &mut u32, right: usize) -> usize {
         3 => std::num::wrapping_add_usize(right, 4),
         _ => right,
     }
+}
+
+// A row of wants at the front of a buffer, and its length, where the right one is given.
+pub fn draw_wanted(state: &mut u32, row: &mut [u8], s: Small, right: usize) -> usize {
+    put_wants(row, draw_wants(state, s));
+    draw_length(state, right)
 }

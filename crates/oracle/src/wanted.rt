@@ -6,10 +6,48 @@ use crate::SHEETS;
 use crate::Small;
 use crate::next_sheet;
 use crate::numbers::long;
+use crate::paths::byte;
 use crate::rules::cell;
 use crate::rules::feasible;
 use crate::rules::supply;
 use crate::rules::total;
+
+// A seat's want: four bytes, low byte first; 0 where the row ends before it.
+fn want_in(row: &[u8], seat: usize) -> u32
+    requires { ⌜ seat < 4 ⌝ }
+{
+    let at = 4 * seat;
+    byte(row, at) as u32
+        + 256 * byte(row, at + 1) as u32
+        + 65536 * byte(row, at + 2) as u32
+        + 16777216 * byte(row, at + 3) as u32
+}
+
+pub fn wants_in(row: &[u8]) -> [u32; 4] {
+    [
+        want_in(row, 0),
+        want_in(row, 1),
+        want_in(row, 2),
+        want_in(row, 3),
+    ]
+}
+
+// 1 for a want that is not 0.
+fn one_if(want: u32) -> usize
+    ensures { λ r. ⌜ r ≤ 1 ⌝ }
+{
+    if want == 0 { 0 } else { 1 }
+}
+
+// How many seats want credits.
+pub fn wanting(wants: [u32; 4]) -> usize {
+    one_if(wants[0]) + one_if(wants[1]) + one_if(wants[2]) + one_if(wants[3])
+}
+
+// Whether a want needs more than two bytes.
+pub fn is_large(wants: [u32; 4]) -> bool {
+    (65535 < wants[0]) | (65535 < wants[1]) | (65535 < wants[2]) | (65535 < wants[3])
+}
 
 // Whether a sheet is lawful, with just these totals.
 pub fn gives(s: Small, wants: [u32; 4], cells: &[u16; 12]) -> bool {
@@ -24,7 +62,7 @@ pub fn gives(s: Small, wants: [u32; 4], cells: &[u16; 12]) -> bool {
 }
 
 // Whether there is such a sheet.
-pub fn some_sheet(s: Small, wants: [u32; 4]) -> bool {
+fn some_sheet(s: Small, wants: [u32; 4]) -> bool {
     let caps = s.caps;
     let mut cells = [0u16; 12];
     for _ in 0..SHEETS {
@@ -36,6 +74,11 @@ pub fn some_sheet(s: Small, wants: [u32; 4]) -> bool {
         }
     }
     false
+}
+
+// How many seats a group has.
+pub fn size(group: u32) -> u32 {
+    u32::count_ones(group)
 }
 
 // A number of a seat, 0 where the seat is not in the group.
@@ -103,13 +146,18 @@ pub fn overasks(s: Small, wants: [u32; 4], group: u32) -> bool {
 }
 
 // Whether there is such a group.
-pub fn some_group(s: Small, wants: [u32; 4]) -> bool {
+fn some_group(s: Small, wants: [u32; 4]) -> bool {
     for group in 1..16u32 {
         if overasks(s, wants, group) {
             return true;
         }
     }
     false
+}
+
+// Whether there is such a sheet and no such group, or the other way round.
+pub fn is_kind(s: Small, wants: [u32; 4], sheet: bool) -> bool {
+    (some_sheet(s, wants) == sheet) & (some_group(s, wants) != sheet)
 }
 
 // Whether one seat is such a group.

@@ -87,7 +87,7 @@ fn look(reply: Reply, file: &[u8], out: &[u8]) -> Seen {
     }
 }
 
-fn lesser(a: usize, b: usize) -> usize
+pub fn lesser(a: usize, b: usize) -> usize
     ensures { λ r. ⌜ r ≤ b ⌝ }
 {
     if a < b { a } else { b }

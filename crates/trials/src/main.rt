@@ -10,12 +10,14 @@ pub mod pairs;
 pub mod refused;
 pub mod sheets;
 pub mod tally;
+pub mod wanted;
 
 enum Kind {
     Small,
     Damaged,
     Pair,
     Full,
+    Wanted,
 }
 
 fn trial(kind: Kind, state: &mut u32, tally: Tally) -> Tally {
@@ -24,6 +26,7 @@ fn trial(kind: Kind, state: &mut u32, tally: Tally) -> Tally {
         Kind::Damaged => refused::judge(state, tally),
         Kind::Pair => pairs::judge(state, tally),
         Kind::Full => full::judge(state, tally),
+        Kind::Wanted => wanted::judge(state, tally),
     }
 }
 
@@ -65,5 +68,12 @@ fn main() {
         b"pairs of hand-ins, by line: neither's (1: different files with equal lists, 2: one book, and balances in one file only,
   3: two books by their balances alone, 4: one book, and own weights in one file only, 5: two books by their weights alone,
   6: by weights of classes alone that no seat has), the first's, the second's (0: chosen)\n",
+    );
+    run(
+        Kind::Wanted,
+        30000,
+        &mut state,
+        b"wanted totals, by number: refused by this line, sheets for so many seats that want credits, groups of so many seats (5: where
+  no seat alone wants too much, 6: where a want is above 65,535)\n",
     );
 }

@@ -93,7 +93,7 @@ fn in_one_only(first: &[u8], second: &[u8], kind: u8) -> bool {
     (entry_in(first, kind) == 0) != (entry_in(second, kind) == 0)
 }
 
-fn small_in(file: &[u8]) -> Small {
+pub fn small_in(file: &[u8]) -> Small {
     let read = reader::read(file);
     small_of(read.day)
 }

@@ -11,6 +11,7 @@ use draws::small::draw_small;
 use draws::small::without_balances;
 use draws::small::without_weights;
 use lawful::MOVES_ROOM;
+use oracle::SHEETS;
 use oracle::Small;
 use oracle::marks::Told;
 use oracle::marks::rightly_marked;
@@ -23,9 +24,6 @@ use oracle::standard::best_alone;
 use oracle::standard::better;
 use say::all_from;
 use say::front;
-
-// No small book has more: 12 cells, and no cap above 3.
-const SHEETS: u32 = 16777216;
 
 // The best of all sheets. The sheet of zeros is the first.
 fn best_of(s: Small) -> Best {

@@ -3,6 +3,7 @@ use answers::Numbers;
 use choice::Choice;
 use dayfile::Book;
 use dayfile::Day;
+use reply::FulfilResult;
 use say::checked;
 use say::front;
 use say::numbers;
@@ -10,6 +11,7 @@ use say::replied;
 use say::say_buffer;
 use say::say_hex;
 use say::say_named;
+use say::say_number;
 use say::say_refusal;
 use say::say_reply;
 use say::say_text;
@@ -20,7 +22,7 @@ pub fn file_in(numbers: &[u8]) -> &[u8] {
     numbers::bytes(numbers, 2, length)
 }
 
-// The second file of a line: all fields of the first stand before it.
+// The second file of a line, or the row of wanted totals: all fields of the file stand before it.
 pub fn second_in(numbers: &[u8]) -> &[u8] {
     let place = 2 + (numbers::wide(numbers, 1) + 1) / 2;
     let length = numbers::wide(numbers, place);
@@ -127,4 +129,20 @@ pub fn better<'a>(first: &'a [u8], second: &'a [u8]) {
     }
     say_text(b", part ");
     say_hex(better::better(first, second));
+}
+
+// A number with its name, 0 too.
+fn say_each(name: &[u8], n: usize) {
+    say_text(name);
+    say_number(n);
+}
+
+// What is replied to a row of wanted totals, in all of its numbers.
+pub fn fulfil(file: &[u8], row: &[u8], out: &mut [u8]) {
+    let r = FulfilResult::of(fulfil::fulfil(file, row, out));
+    say_each(b"refusal ", r.refusal as usize);
+    say_each(b", offset ", r.offset);
+    say_each(b", length ", r.length);
+    say_each(b", group ", r.group as usize);
+    say_buffer(out);
 }

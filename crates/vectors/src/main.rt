@@ -25,6 +25,7 @@ fn answer(word: u8, numbers: &[u8], out: &mut [u8]) {
         b'p' => calls::plan(file, out),
         b'l' => calls::list(file, out),
         b'b' => calls::better(file, second_in(numbers)),
+        b'f' => calls::fulfil(file, second_in(numbers), out),
         _ => {}
     }
 }
