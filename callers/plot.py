@@ -121,7 +121,6 @@ def main():
         "mark": table(tables["mark"], "mark", two),
         "better": table(tables["better"], "better", two),
         "fulfil": fulfil_table(tables["fulfil"], "fulfil"),
-        "settled": fulfil_table(tables["settled"], "one class, nothing wanted"),
         "fulfil seats": fulfil_table(tables["fulfil seats"], "seats"),
         "fulfil windows": fulfil_table(tables["fulfil windows"], "windows"),
         "file": table(tables["file"], "the longest file", two),

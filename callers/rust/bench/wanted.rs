@@ -2,8 +2,7 @@
 //!
 //! The library has no call that plans without the standard sheet. What its plan takes without that, "settled plan", is taken to be its
 //! plan's time less the share that the standard sheet has of the plan in plain Rust of the same method: the library's plan x settled alone
-//! / plain Rust's plan. These three are timed on the same file, in turn with the others. For books of one class it can be measured too:
-//! with nothing wanted the library settles them as its plan does, and a table puts that beside.
+//! / plain Rust's plan. These three are timed on the same file, in turn with the others.
 
 use std::hint::black_box;
 
@@ -107,16 +106,6 @@ pub fn table(csv: &mut String) {
     println!("and in {settled} times what that plan takes without the standard sheet.");
     println!("{}", agreement());
     count_settling();
-    settled_table(csv);
-}
-
-/// The library settles books of one class as its plan does, by a row of zeros: what the last column should say.
-fn settled_table(csv: &mut String) {
-    heading("one class, nothing wanted", &NAMES);
-    for (kind, draw) in KINDS {
-        let one_class = |rng: &mut Rng| Book { classes: [1; SEATS], ..draw(rng, 32, 24) };
-        line(csv, "settled", kind, &NAMES, &times(one_class, |_, _| [0; SEATS]));
-    }
 }
 
 /// Fulfilling as books grow, a quarter filled: the number that grows, and the size of the book.
