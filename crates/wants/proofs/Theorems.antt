@@ -50,15 +50,14 @@ module _ (b : Book) (wants : ℕ → ℕ) where
         },
       )
 
-  pub sheet-or-group : Fulfillable b wants ⊎ ((g : ℕ) × Overasks (instanceOf b) wants g)
+  -- the used cells of a sheet of functions as a grid
+  sheet-of : (S : Sheet) → Grants (instanceOf b) wants S → Fulfillable b wants
   unfolding instanceOf
-  sheet-or-group =
-      ⊎-elim
-      (λ s.
-      let t = gridOf (seats b) (windows b) (s .0) in
-      let same : (i j : ℕ) → i < seats b → j < windows b → s .0 i j ≡ cell t i j =
-      λ i j li lj. sym (gridOf-cell (seats b) (windows b) (s .0) i j li lj) in
-      inl
-      (t, record { a-sheet = gridOf-shaped (seats b) (windows b) (s .0); grants = same-cells (instanceOf b) wants (s .0) (cell t) same (s .1) }))
-      (λ o. inr (group-of o))
-      (granted-or-overasked (instanceOf b) wants)
+  sheet-of S h =
+      let t = gridOf (seats b) (windows b) S in
+      let same : (i j : ℕ) → i < seats b → j < windows b → S i j ≡ cell t i j =
+      λ i j li lj. sym (gridOf-cell (seats b) (windows b) S i j li lj) in
+      (t, record { a-sheet = gridOf-shaped (seats b) (windows b) S; grants = same-cells (instanceOf b) wants S (cell t) same h })
+
+  pub sheet-or-group : Fulfillable b wants ⊎ ((g : ℕ) × Overasks (instanceOf b) wants g)
+  sheet-or-group = ⊎-elim (λ s. inl (sheet-of (s .0) (s .1))) (λ o. inr (group-of o)) (granted-or-overasked (instanceOf b) wants)

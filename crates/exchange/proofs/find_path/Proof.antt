@@ -14,7 +14,8 @@ use Rattle.exchange.proofs.find_path.Statement.{statement}
 use Rattle.exchange.proofs.find_path.Tie as tie
 
 abbrev Inv-loop : tie.InvT-loop
-Inv-loop grid caps t seats windows bases weights positions heights₀ seat₀ heights seat = Known grid seats windows bases heights₀ seat heights
+Inv-loop grid caps t seats windows bases weights positions heights₀ seat₀ heights seat =
+    Known grid seats windows bases heights₀ seat heights
 
 abbrev μ-loop : tie.MeasureT-loop
 μ-loop grid caps t seats windows bases weights positions heights₀ seat₀ heights seat = seats - seat

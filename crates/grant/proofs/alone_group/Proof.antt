@@ -32,4 +32,6 @@ returns-2 c =
     (none-short _ _ _ _ (look .first-short .ensures) (c .enum-told .given .1))
 
 pub alone-group-spec : {M : Type 1} → statement M
-alone-group-spec = tie.close (tie.spec (λ c κs. search needs) (λ c κs. search needs) (λ c. search needs) insert-requires returns (λ c. search needs) returns-2)
+alone-group-spec =
+    tie.close (tie.spec (λ c κs. search needs) (λ c κs. search needs) (λ c. search needs) insert-requires returns (λ c. search needs)
+    returns-2)

@@ -33,4 +33,6 @@ returns-3 c =
     (of-none _ _ _ (none .if2 .left) (settle .settle-short .ensures I told)) (c .trim .ensures)
 
 pub grant-spec : {M : Type 1} → statement M
-grant-spec = tie.close (tie.spec (λ c κs. search needs) returns (λ c κs. search needs) settle-short-requires returns-2 (λ c κs. search needs) returns-3)
+grant-spec =
+    tie.close (tie.spec (λ c κs. search needs) returns (λ c κs. search needs) settle-short-requires returns-2 (λ c κs. search needs)
+    returns-3)

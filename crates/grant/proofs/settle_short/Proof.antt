@@ -39,4 +39,6 @@ returns-2 c =
     (c .short-group .ensures I told)
 
 pub settle-short-spec : {M : Type 1} → statement M
-settle-short-spec = tie.close (tie.spec (λ c κs. search needs) (λ c κs. search needs) (λ c. search needs) returns (λ c. search needs) (λ c κs. search needs) settled-from-requires (λ c κs. search needs) returns-2)
+settle-short-spec =
+    tie.close (tie.spec (λ c κs. search needs) (λ c κs. search needs) (λ c. search needs) returns (λ c. search needs)
+    (λ c κs. search needs) settled-from-requires (λ c κs. search needs) returns-2)

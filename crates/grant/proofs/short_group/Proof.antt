@@ -33,4 +33,6 @@ returns-2 c =
     (none-short _ _ _ _ (look .first-short .ensures) (c .enum-told .given .1))
 
 pub short-group-spec : {M : Type 1} → statement M
-short-group-spec = tie.close (tie.spec (λ c κs. search needs) (λ c κs. search needs) (λ c. search needs) (λ c κs. search needs) reached-requires returns (λ c. search needs) returns-2)
+short-group-spec =
+    tie.close (tie.spec (λ c κs. search needs) (λ c κs. search needs) (λ c. search needs) (λ c κs. search needs) reached-requires returns
+    (λ c. search needs) returns-2)

@@ -25,4 +25,5 @@ returns c = let l = c .before .loop in last _ _ (l .w) (l .total) (l .inv) (sear
 
 pub alone-total-spec : {M : Type 1} → statement M
 alone-total-spec =
-    tie.close (tie.spec Inv-loop μ-loop (λ c. first _ _) (λ c. search needs) (λ c. search needs) (λ c. search needs) (λ c. search needs) (λ c κs. search needs) (λ c. search needs) (λ c. search needs) (λ c. search needs) (λ c. search needs) loop-again returns)
+    tie.close (tie.spec Inv-loop μ-loop (λ c. first _ _) (λ c. search needs) (λ c. search needs) (λ c. search needs) (λ c. search needs)
+    (λ c κs. search needs) (λ c. search needs) (λ c. search needs) (λ c. search needs) (λ c. search needs) loop-again returns)

@@ -10,7 +10,8 @@ use Rattle.wants.proofs.alone_totals.Statement.{statement}
 use Rattle.wants.proofs.alone_totals.Tie as tie
 
 abbrev Inv-loop : tie.InvT-loop
-Inv-loop caps seats windows supplies totals₀ i₀ totals i = Filled (λ k x. x ≡ sum windows (λ j. min (getD supplies j 0) (cell caps k j))) 0 32 seats totals₀ i totals
+Inv-loop caps seats windows supplies totals₀ i₀ totals i =
+    Filled (λ k x. x ≡ sum windows (λ j. min (getD supplies j 0) (cell caps k j))) 0 32 seats totals₀ i totals
 
 abbrev μ-loop : tie.MeasureT-loop
 μ-loop caps seats windows supplies totals₀ i₀ totals i = seats - i
@@ -26,4 +27,5 @@ returns c = λ i l. filled-at (c .before .loop .inv) (c .loop-test .left) i l
 
 pub alone-totals-spec : {M : Type 1} → statement M
 alone-totals-spec =
-    tie.close (tie.spec Inv-loop μ-loop loop-holds (λ c. search needs) (λ c. search needs) (λ c κs. search needs) (λ c. search needs) (λ c. search needs) (λ c. search needs) (λ c. search needs) loop-again returns)
+    tie.close (tie.spec Inv-loop μ-loop loop-holds (λ c. search needs) (λ c. search needs) (λ c κs. search needs) (λ c. search needs)
+    (λ c. search needs) (λ c. search needs) (λ c. search needs) loop-again returns)

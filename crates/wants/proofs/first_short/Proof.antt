@@ -31,4 +31,5 @@ returns-2 c = let at = c .before .loop in λ k l. at .inv .1 k (omega (arith, c 
 
 pub first-short-spec : {M : Type 1} → statement M
 first-short-spec =
-    tie.close (tie.spec Inv-loop μ-loop loop-holds (λ c. search needs) (λ c. search needs) (λ c. search needs) (λ c. search needs) returns (λ c. search needs) (λ c. search needs) loop-again returns-2)
+    tie.close (tie.spec Inv-loop μ-loop loop-holds (λ c. search needs) (λ c. search needs) (λ c. search needs) (λ c. search needs) returns
+    (λ c. search needs) (λ c. search needs) loop-again returns-2)

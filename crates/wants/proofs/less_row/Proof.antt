@@ -35,4 +35,5 @@ returns c = λ j l. filled-at (c .before .loop .inv) (c .loop-test .left) j l
 
 pub less-row-spec : {M : Type 1} → statement M
 less-row-spec =
-    tie.close (tie.spec Inv-loop μ-loop loop-holds (λ c. search needs) (λ c. search needs) (λ c. search needs) (λ c. search needs) sub-left (λ c. search needs) (λ c. search needs) (λ c. search needs) loop-again returns)
+    tie.close (tie.spec Inv-loop μ-loop loop-holds (λ c. search needs) (λ c. search needs) (λ c. search needs) (λ c. search needs)
+    sub-left (λ c. search needs) (λ c. search needs) (λ c. search needs) loop-again returns)

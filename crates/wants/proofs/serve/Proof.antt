@@ -23,7 +23,9 @@ less-row-requires c κs =
     let at = take .before .before .before .before in
     let a = at .before .before .args in (
       search needs,
-      λ j l. taken-less (getD (a .t3) (at .loop .i) 0) (at .loop .left) (getD (a .caps .now) (at .loop .i) []) j _ (take .take-row .ensures j l),
+      λ j l.
+          taken-less (getD (a .t3) (at .loop .i) 0) (at .loop .left) (getD (a .caps .now) (at .loop .i) []) j _
+          (take .take-row .ensures j l),
     )
 
 loop-again : tie.Need-loop-again Inv-loop μ-loop
@@ -41,4 +43,6 @@ returns c =
 
 pub serve-spec : {M : Type 1} → statement M
 serve-spec =
-    tie.close (tie.spec Inv-loop μ-loop loop-holds (λ c. search needs) (λ c. search needs) (λ c. search needs) (λ c. search needs) (λ c κs. search needs) (λ c. search needs) (λ c. search needs) less-row-requires (λ c. search needs) (λ c. search needs) loop-again returns)
+    tie.close (tie.spec Inv-loop μ-loop loop-holds (λ c. search needs) (λ c. search needs) (λ c. search needs) (λ c. search needs)
+    (λ c κs. search needs) (λ c. search needs) (λ c. search needs) less-row-requires (λ c. search needs) (λ c. search needs) loop-again
+    returns)

@@ -42,4 +42,6 @@ returns c = λ j l. filled-at (c .before .loop .inv .0) (c .loop-test .left) j l
 
 pub take-row-spec : {M : Type 1} → statement M
 take-row-spec =
-    tie.close (tie.spec Inv-loop μ-loop loop-holds (λ c. search needs) (λ c. search needs) (λ c. search needs) (λ c. search needs) (λ c κs. search needs) (λ c κs. search needs) (λ c. search needs) (λ c. search needs) (λ c. search needs) sub-missing (λ c. search needs) (λ c. search needs) loop-again returns)
+    tie.close (tie.spec Inv-loop μ-loop loop-holds (λ c. search needs) (λ c. search needs) (λ c. search needs) (λ c. search needs)
+    (λ c κs. search needs) (λ c κs. search needs) (λ c. search needs) (λ c. search needs) (λ c. search needs) sub-missing
+    (λ c. search needs) (λ c. search needs) loop-again returns)
