@@ -11,7 +11,7 @@ use Rattle.demands.proofs.Files.{reads-back, same-bytes}
 use Rattle.demands.proofs.Better.{inside, same-sheet, not-lower, passes}
 use Rattle.demands.proofs.Fairness.{passes-exactly, passing-highest, fails, planned, planned-passes}
 use Rattle.demands.proofs.Standard as standard
-use Rattle.demands.proofs.Wanted.{sheet-read}
+use Rattle.demands.proofs.Wanted.{document-cap, told-apart, kept, sheet-read}
 
 -- each call gives a defined outcome or a numbered refusal, and a refusal changes no byte
 pub demand-1 : Demand1
@@ -54,6 +54,9 @@ sheet-or-group =
     record {
       one-is = λ b row. wants.sheet-or-group b (want row);
       not-both = λ b row. wants.never-both b (want row);
+      document-cap = document-cap;
       not-empty = λ b row. wants.not-empty (instanceOf b) (want row);
+      told-apart = told-apart;
+      kept = kept;
       reads-back = sheet-read;
     }

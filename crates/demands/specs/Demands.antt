@@ -6,10 +6,11 @@ use mathlib.Core.Path.{_≡_}
 use mathlib.Core.List.{List, []}
 use mathlib.Core.Logic.{_↔_, _⊎_}
 use mathlib.Core.Option.{some}
-use Prim.Native.Nat.{ℕ, _+_, _≤_, _<_}
+use Prim.Native.Nat.{ℕ, min, _+_, _≤_, _<_}
+use native.Mathlib.Decide.{ℕ-discrete}
 use lib.ListN.{length, take}
-use Rattle.fairness.specs.Sums.{sum}
-use Rattle.fairness.specs.Instance.{Instance, Sheet, Wasteful, Feasible}
+use Rattle.fairness.specs.Sums.{sum, over}
+use Rattle.fairness.specs.Instance.{Instance, Sheet, Wasteful, Feasible, groupCapacity}
 use Rattle.fairness.specs.Leximin.{Level, NoHigher, Equal, Higher, profile}
 use Rattle.fairness.specs.Exchange.{Settled, Tied, playAll, PlaysOut}
 use Rattle.model.specs.Book.{Grid, Book, SheetOf, Lawful, cell, instanceOf, totals}
@@ -34,6 +35,8 @@ use Rattle.choice.specs.declared.Choice.{Choice}
 use Rattle.better.specs.Choice.{Side, other, fileOn, listOf, Chosen, sideOf, SaysWhose, Chooses, HandsBack}
 use Rattle.reply.specs.declared.Reply.{Reply}
 use Rattle.reply.specs.declared.Reply.the-variants as variants
+use Rattle.reply.specs.Numbers.{fulfilNumbers}
+use Rattle.masks.specs.Sets.{bit}
 use Rattle.wants.specs.Wanted.{want, Gives, Fulfillable, Overasks}
 use Rattle.fulfil.specs.Fulfilling.{replied, Right, IsSheet, Fulfils}
 
@@ -186,13 +189,27 @@ pub record OneStandardSheet : Type 0 where
 
 -- ---- From wanted totals to a sheet (paper 02, E7), for its reader
 
+-- document 000's cap(I, A') of a group, letter by letter: over the objects, the lesser of β_I and what the group demands, where β_I is the
+-- lesser of the supply and what all agents demand
+abbrev pub documentCap : Instance → ℕ → ℕ
+documentCap I group =
+    sum (I .windows)
+    (λ b. min (min (I .supply b) (sum (I .seats) (λ a. I .cap a b)))
+    (over (λ a. ℕ-discrete (bit group a) 1) (I .seats) (λ a. I .cap a b)))
+
 pub record SheetOrGroup : Type 0 where
   -- of any book and row exactly one of the two kinds of reply is possible: a lawful sheet with just those totals, or a group of seats that
   -- wants more than it can get
   pub one-is : (b : Book) (row : List ℕ) → Fulfillable b (want row) ⊎ ((g : ℕ) × Overasks (instanceOf b) (want row) g)
   pub not-both : (b : Book) (row : List ℕ) → Fulfillable b (want row) → (g : ℕ) → Overasks (instanceOf b) (want row) g → ⊥
-  -- a group is never empty, so that 0 can stand for none
+  -- what a group can get is document 000's cap of it
+  pub document-cap : (I : Instance) (group : ℕ) → groupCapacity I (λ a. ℕ-discrete (bit group a) 1) ≡ documentCap I group
+  -- a group is never empty, so where no line holds C tells a sheet by a group of 0
   pub not-empty : (b : Book) (row : List ℕ) → Overasks (instanceOf b) (want row) 0 → ⊥
+  pub told-apart : (file row before after : List ℕ) (r : Reply) → Fulfils file row before after r →
+      NoneHolds (fulfilLines file row (length before)) → (fulfilNumbers r .group ≡ 0) ↔ Fulfillable (bookOf file) (want row)
+  -- a group changes no byte
+  pub kept : (file row before after : List ℕ) (g : ℕ) → Fulfils file row before after (variants.Group g) → after ≡ before
   -- the bytes at the buffer's front that a sheet's reply tells, read cell by cell, are such a sheet
   pub reads-back : (file row before after : List ℕ) (n : ℕ) → Fulfils file row before after (variants.Sheet n) →
       Gives (bookOf file) (want row) (gridAt (take n after) 0 (seatsIn file) (windowsIn file))

@@ -71,9 +71,9 @@ pub fn grant(t: Terms, caps: &Caps, wants: [u32; 32], sheet: &mut Caps) -> u32
     ensures { λ r. ⌜ ((I : Instance) → Told I t (now (caps .entry)) →
         IfGroup r (Overasks I (λ i. getD wants i 0) r) (Grants I (λ i. getD wants i 0) (cell (now (sheet .exit))))) ⌝ }
 {
-    let greedy = alone_group(t, caps, wants);
-    if greedy != 0 {
-        return greedy;
+    let alone = alone_group(t, caps, wants);
+    if alone != 0 {
+        return alone;
     }
     *sheet = serve(t, caps, wants);
     let group = settle_short(sheet, caps, t, wants);
