@@ -18,10 +18,10 @@ pub struct Request {
     pub row: Vec<u8>,
 }
 
-/// What may come of wanted totals, by place in the count. The last ones count replies again: sheets that hand out all there is, groups
-/// that want one credit more than they can get, groups in which every seat by itself can have what it wants, and buffers that are too
-/// short where there would be a group.
-pub const REPLIES: [&str; 11] = [
+/// What may come of wanted totals, by place in the count. The last ones count replies again: sheets that hand out all there is, sheets that
+/// are not found by serving the seats in turn, groups that want one credit more than they can get, groups in which every seat by itself can
+/// have what it wants, and buffers that are too short where there would be a group.
+pub const REPLIES: [&str; 12] = [
     "sheets",
     "groups of one seat",
     "groups of several",
@@ -30,6 +30,7 @@ pub const REPLIES: [&str; 11] = [
     "rows refused",
     "buffers refused",
     "sheets of all there is",
+    "sheets where serving the seats in turn is not enough",
     "groups with one credit too many",
     "groups in which each seat can have its want",
     "buffers refused before a group",
@@ -42,9 +43,10 @@ const FILE_REFUSED: usize = 4;
 const ROW_REFUSED: usize = 5;
 const BUFFER_REFUSED: usize = 6;
 const ALL_THERE_IS: usize = 7;
-const ONE_TOO_MANY: usize = 8;
-const NONE_ALONE: usize = 9;
-const BUFFER_BEFORE_GROUP: usize = 10;
+const NOT_IN_TURN: usize = 8;
+const ONE_TOO_MANY: usize = 9;
+const NONE_ALONE: usize = 10;
+const BUFFER_BEFORE_GROUP: usize = 11;
 
 /// How long a refused row is, by place in the count. A row of one want can be short of a want only as one of no bytes.
 pub const LENGTHS: [&str; 7] =
@@ -248,7 +250,21 @@ fn check_sheet(seen: &mut Seen, request: &Request, body: &[u8]) -> Result<(), St
     let everyone = u32::MAX >> (SEATS - book.seats);
     seen.replies[SHEET] += 1;
     seen.replies[ALL_THERE_IS] += (wants_of(&wants, everyone) == can_get(&book, everyone)) as usize;
+    seen.replies[NOT_IN_TURN] += !enough_in_turn(&book, &wants) as usize;
     Ok(())
+}
+
+/// Whether every seat gets its want where each in turn takes, window by window, what it may have of what is left.
+fn enough_in_turn(book: &Book, wants: &[u32]) -> bool {
+    let mut left = book.supplies;
+    (0..book.seats).all(|seat| {
+        let missing = (0..book.windows).fold(wants[seat], |missing, window| {
+            let taken = missing.min(book.caps[seat][window].min(left[window]) as u32);
+            left[window] -= taken as u16;
+            missing - taken
+        });
+        missing == 0
+    })
 }
 
 /// The group has some seats, all of them of the book, and wants more than it can get.
