@@ -1,6 +1,7 @@
 """libcredits for Python, by ctypes: read, write, mark, plan, list and compare day files, and fulfil wanted totals. include/credits.h says
 what each call does."""
 import ctypes
+import operator
 import os
 from typing import NamedTuple
 
@@ -69,8 +70,13 @@ class Book(ctypes.Structure):
         return sum(self.sheet[seat][:self.windows])
 
     def can_get(self, group):
-        """What a group of seats, counted from 1, can get: over the windows the lesser of the supply and the group's caps added together."""
-        return sum(min(self.supplies[window], sum(self.caps[seat - 1][window] for seat in group)) for window in range(self.windows))
+        """What a group of seats, counted from 1, can get: over the windows the lesser of the supply and the group's caps added together.
+        A seat that is named twice counts once; one that the book does not have is a ValueError."""
+        seats = set(group)
+        for seat in seats:
+            if seat not in range(1, self.seats + 1):
+                raise ValueError(f'seat {seat!r} in a book of seats 1 to {self.seats}')
+        return sum(min(self.supplies[window], sum(self.caps[seat - 1][window] for seat in seats)) for window in range(self.windows))
 
 
 class ReadResult(ctypes.Structure):
@@ -196,11 +202,20 @@ def better(first, second):
     return Better(b.file, memoryview((first, second)[b.file - 1])[b.start:b.start + b.length])
 
 
+def want_bytes(want):
+    """A wanted total as four bytes, low byte first: a TypeError if it is no whole number, a ValueError if four bytes cannot hold it."""
+    try:
+        number = operator.index(want)
+    except TypeError:
+        raise TypeError(f'{want!r} as a wanted total: not a whole number') from None
+    if not 0 <= number < 1 << 32:
+        raise ValueError(f'{number} in four bytes')
+    return number.to_bytes(4, 'little')
+
+
 def wanted_row(wanted):
-    """Wanted totals as bytes, four for each, low byte first."""
-    if not all(0 <= want < 1 << 32 for want in wanted):
-        raise ValueError(f'{wanted} in four bytes each')
-    return b''.join(want.to_bytes(4, 'little') for want in wanted)
+    """Wanted totals, in a list or whatever gives one after the other, as bytes, four for each, low byte first."""
+    return b''.join([want_bytes(want) for want in wanted])
 
 
 def fulfil(file, wanted):
@@ -210,5 +225,6 @@ def fulfil(file, wanted):
     if f.group:
         return Fulfilled(None, [seat + 1 for seat in range(SEATS) if f.group >> seat & 1])
     cells = [low + 256 * high for low, high in zip(out[:f.length:2], out[1:f.length:2])]
-    windows = len(cells) // len(wanted)
-    return Fulfilled([cells[windows * seat:][:windows] for seat in range(len(wanted))], None)
+    seats = len(row) // 4
+    windows = len(cells) // seats
+    return Fulfilled([cells[windows * seat:][:windows] for seat in range(seats)], None)

@@ -20,6 +20,15 @@ def refusal(call, *arguments):
     raise AssertionError('not refused')
 
 
+def error(call, *arguments):
+    """The name and the words of the error that the wrapper itself must answer."""
+    try:
+        call(*arguments)
+    except (TypeError, ValueError) as e:
+        return type(e).__name__, str(e)
+    raise AssertionError('no error')
+
+
 def try_example(day):
     file = day.read_bytes()
     book = credits.read(file)
@@ -218,6 +227,23 @@ def try_wanted():
     print('wanted totals for other numbers of seats, and short buffers: refused')
 
 
+def try_any_wants():
+    """Wants from a generator; wants that no row can hold; groups with a seat twice, and with seats that the book does not have."""
+    file = (FOLDER / 'k08.day').read_bytes()
+    assert credits.fulfil(file, (want for want in (1, 2, 1))) == ([[1, 0], [0, 2], [0, 1]], None)
+    assert credits.fulfil(file, (want for want in (1, 3, 0))) == (None, [1, 2])
+    assert credits.wanted_row(want for want in (258, 2 ** 32 - 1)) == bytes([2, 1, 0, 0, 255, 255, 255, 255])
+    for want in (1.0, 1.5, '1', None):
+        assert error(credits.fulfil, file, [1, want, 1]) == ('TypeError', f'{want!r} as a wanted total: not a whole number')
+    for want in (-1, 2 ** 32):
+        assert error(credits.fulfil, file, [1, want, 1]) == ('ValueError', f'{want} in four bytes')
+    book = credits.read(file)
+    assert [book.can_get(group) for group in ([], [1], [2], [2, 2], (1, 2, 1, 2), iter([3, 1]))] == [0, 1, 3, 3, 3, 4]
+    for seat in (0, -1, 4, 33, '1'):
+        assert error(book.can_get, [1, seat]) == ('ValueError', f'seat {seat!r} in a book of seats 1 to 3')
+    print('wants that are no whole numbers or too great for four bytes, and groups with seats of no book: errors')
+
+
 def try_refusals():
     k11 = (FOLDER / 'k11.day').read_bytes()
     for file, number, offset in ((b'', 1, 0), (k11[:-1], 6, 25), (k11 + b'\0', 6, 27)):
@@ -249,5 +275,6 @@ for d in days:
     try_planned_totals(d)
 print('planned totals of', len(days), 'examples: a sheet each; one credit more: a group')
 try_wanted()
+try_any_wants()
 try_refusals()
 print('Python: all checks passed')
