@@ -122,7 +122,8 @@ typedef struct {
     size_t length; /* and how many bytes it has */
 } credits_better_result;
 
-/* Where there is a sheet, group is 0; where there is a group, length is 0. */
+/* Where there is a sheet, group is 0; where there is a group, length is 0, and the group has at least one seat and only seats of the book.
+ * So with refusal 0, group tells which of the two came. */
 typedef struct {
     uint32_t refusal;
     size_t offset;
