@@ -36,6 +36,7 @@ abbrev pub Right : (file row before after : List ℕ) → Kind → Type 0
 Right file row before after (aSheet n) = (n ≡ bodyLength file) × Given (bookOf file) (want row) before after
 Right file row before after (aGroup g) = Overasks (instanceOf (bookOf file)) (want row) g × (after ≡ before)
 
+-- it is a sheet
 abbrev pub IsSheet : Kind → Type 0
 IsSheet (aSheet n) = Unit {0}
 IsSheet (aGroup g) = ⊥
