@@ -3,8 +3,8 @@
  * A day file holds a book (the seats' classes, the windows' supplies, a cap for each seat in each window, and perhaps the seat that comes
  * first today, a balance for each seat, which is what it received on earlier days, and its own weight for each class) and perhaps a sheet
  * (credits for each seat in each window). The calls read one, write one, mark its sheet, plan the fairest sheet, list it as text, choose
- * the better of two sheets of a book, and find a sheet with wanted totals. What each call does is proved for every file, every book and
- * every buffer; the contracts are in crates/credits/specs/Calls.antt.
+ * the better of two sheets of a book, find a sheet with wanted totals, and tell what a plan will take. What each call does is proved for
+ * every file, every book and every buffer; the contracts are in crates/credits/specs/Calls.antt.
  *
  * What a caller owes, for every call:
  *   - A pointer points to as many bytes as the length after it says. They may be read, and written where it is not const. With length 0
@@ -131,6 +131,13 @@ typedef struct {
     uint32_t group; /* the seats that together want more than they can get: the lowest bit is seat 1, the highest seat 32 */
 } credits_fulfil_result;
 
+typedef struct {
+    uint32_t refusal;
+    size_t offset;
+    size_t length;                    /* of the file that credits_plan will write, and so of the shortest buffer that it takes */
+    uint32_t placed[CREDITS_WINDOWS]; /* the credits that each window will have placed */
+} credits_forecast_result;
+
 /* At a refusal no byte of a buffer changes. The bytes after what a call writes keep their values. */
 
 /* The book and the sheet of a day file. Refusals 1 to 12, then 18 to 20. */
@@ -170,6 +177,13 @@ credits_better_result credits_better(const uint8_t *first, size_t first_len, con
  * 16. */
 credits_fulfil_result credits_fulfil(const uint8_t *file, size_t file_len, const uint8_t *wanted, size_t wanted_len, uint8_t *out,
                                      size_t out_len);
+
+/* What a plan of a day file will take: the length of the file that credits_plan will write, so that a buffer of this length is long enough
+ * and none that is shorter; and for each window the credits that its cells will add up to, which are the lesser of the supply and the caps
+ * there added together. There is no buffer. Cells of a sheet that the file holds are neither used nor checked. At a refusal the length and
+ * all of `placed` are 0, and so is what stands for windows that the book does not have. Refusals 1 to 12, then 18 to 20: the same that
+ * credits_plan gives, but for 16. */
+credits_forecast_result credits_forecast(const uint8_t *file, size_t file_len);
 
 #ifdef __cplusplus
 }

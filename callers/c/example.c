@@ -1,4 +1,5 @@
-/* Plans, marks, reads, writes, lists and compares day files and fulfils wanted totals by libcredits, and checks all that it sees.
+/* Plans, marks, reads, writes, lists and compares day files, fulfils wanted totals and forecasts plans by libcredits, and checks all that
+ * it sees.
  *
  *     example FOLDER       FOLDER is examples/ of this repository
  *
@@ -47,6 +48,11 @@ static_assert(offsetof(credits_fulfil_result, offset) == 8, "offset of a fulfil 
 static_assert(offsetof(credits_fulfil_result, length) == 16, "length of a fulfil result");
 static_assert(offsetof(credits_fulfil_result, group) == 24, "group");
 static_assert(sizeof(credits_fulfil_result) == 32, "credits_fulfil_result");
+static_assert(offsetof(credits_forecast_result, refusal) == 0, "refusal of a forecast result");
+static_assert(offsetof(credits_forecast_result, offset) == 8, "offset of a forecast result");
+static_assert(offsetof(credits_forecast_result, length) == 16, "length of a forecast result");
+static_assert(offsetof(credits_forecast_result, placed) == 24, "placed");
+static_assert(sizeof(credits_forecast_result) == 120, "credits_forecast_result");
 static_assert(CREDITS_SHEET_MAX == 2 * CREDITS_SEATS * CREDITS_WINDOWS, "CREDITS_SHEET_MAX");
 
 static int checks = 0;
@@ -624,6 +630,94 @@ static void try_what_counts(const char *folder) {
     }
 }
 
+/* ---- what a plan will take */
+
+static credits_forecast_result forecast(bytes file) {
+    return credits_forecast(file.at, file.length);
+}
+
+/* Whether a file is taken, and a plan of it will take that. */
+static int will_take(credits_forecast_result r, size_t length, const uint32_t *placed) {
+    return r.refusal == CREDITS_OK && r.offset == 0 && r.length == length && memcmp(r.placed, placed, sizeof r.placed) == 0;
+}
+
+/* The credits that the sheet places in a window. */
+static uint32_t placed_in(const credits_book *book, size_t window) {
+    uint32_t sum = 0;
+    for (size_t i = 0; i < book->seats; i++) sum += book->sheet[i][window];
+    return sum;
+}
+
+/* Reserve, then plan: a buffer of just that length takes the plan, whose windows have just those credits placed; one byte less, and the
+ * plan asks for that length. A plan of the plan will take the same. */
+static void try_forecast(const char *folder, const char *name) {
+    bytes file = load(folder, name, ".day");
+    credits_forecast_result f = forecast(file);
+    CHECK(f.refusal == CREDITS_OK && f.offset == 0);
+    bytes out = block(f.length), little = block(f.length - 1);
+    credits_write_result r = credits_plan(file.at, file.length, out.at, out.length);
+    CHECK(r.refusal == CREDITS_OK && r.length == f.length);
+    credits_book fair = book_in(out);
+    for (size_t w = 0; w < CREDITS_WINDOWS; w++) CHECK(f.placed[w] == (w < fair.windows ? placed_in(&fair, w) : 0));
+    r = credits_plan(file.at, file.length, little.at, little.length);
+    CHECK(r.refusal == CREDITS_REFUSED_BUFFER && r.offset == f.length && r.length == 0 && untouched(little, 0));
+    CHECK(will_take(forecast(out), f.length, f.placed));
+    printf("%-14s forecast: %4zu bytes, %4u credits in window 1; planned: the same\n", name, f.length, f.placed[0]);
+    free(little.at);
+    free(out.at);
+    free(file.at);
+}
+
+/* Worked out by hand: two bytes, six for each entry, and the bodies; and of each window the lesser of the supply and the caps. */
+static void try_known_forecasts(const char *folder) {
+    static const struct {
+        const char *name;
+        size_t length;
+        uint32_t placed[CREDITS_WINDOWS];
+    } known[] = {{"k01", 50, {4, 4}}, {"k03", 40, {3}},    {"k08", 60, {1, 3}},    {"k09", 34, {0}},          {"k10a", 34, {2}},
+                 {"k11", 34, {2}},    {"k12", 60, {1, 2}}, {"first-k03", 48, {3}}, {"balances-k05", 50, {4}}, {"weights-k05", 62, {4}}};
+    for (size_t k = 0; k < sizeof known / sizeof known[0]; k++) {
+        bytes file = load(folder, known[k].name, ".day");
+        CHECK(will_take(forecast(file), known[k].length, known[k].placed));
+        free(file.at);
+    }
+    bytes longest = load(folder, "full-weights", ".day");
+    CHECK(forecast(longest).length == CREDITS_FILE_MAX);
+    free(longest.at);
+}
+
+/* Without a sheet, and with one that is not lawful, a plan of the book will take the same. */
+static void try_any_sheet(const char *folder) {
+    bytes file = load(folder, "k08", ".day");
+    credits_forecast_result f = forecast(file);
+    credits_book book = book_in(file);
+    memset(book.sheet, 0xff, sizeof book.sheet);
+    bytes unlawful = written(book);
+    book.has_sheet = 0;
+    bytes without = written(book);
+    CHECK(unlawful.length == f.length && without.length == f.length - 6 - 12);
+    CHECK(will_take(forecast(unlawful), f.length, f.placed) && will_take(forecast(without), f.length, f.placed));
+    printf("k08 without a sheet and with one that is not lawful: forecast as before\n");
+    free(without.at);
+    free(unlawful.at);
+    free(file.at);
+}
+
+/* Caps that together are one below a supply of 4,095, the same and one above, and 65,536, which is 0 in two bytes. */
+static void try_sums_of_caps(void) {
+    static const uint16_t first[4] = {4000, 4000, 4000, 4095}, others[4] = {0, 0, 0, 4095}, last[4] = {94, 95, 96, 16};
+    static const uint32_t placed[CREDITS_WINDOWS] = {4094, 4095, 4095, 4095};
+    credits_book book = {.seats = 17, .windows = 4, .supplies = {4095, 4095, 4095, 4095}};
+    for (size_t i = 0; i < 17; i++) {
+        book.classes[i] = 1;
+        memcpy(book.caps[i], i == 0 ? first : i == 16 ? last : others, sizeof first);
+    }
+    bytes file = written(book);
+    CHECK(will_take(forecast(file), 2 + 4 * 6 + 34 + 8 + 136 + 136, placed));
+    printf("caps just below, at and above a supply, and above two bytes: the lesser is forecast\n");
+    free(file.at);
+}
+
 /* ---- refusals, which leave every buffer as it was */
 
 static int refused(credits_write_result r, uint32_t number, size_t offset) {
@@ -639,10 +733,16 @@ static int all_zero(const credits_book *b) {
            memcmp(b->sheet, zero.sheet, sizeof b->sheet) == 0;
 }
 
-/* A file that read, plan and mark refuse alike. */
+static int unforecast(credits_forecast_result r, uint32_t number, size_t offset) {
+    static const credits_forecast_result zero;
+    return r.refusal == number && r.offset == offset && r.length == 0 && memcmp(r.placed, zero.placed, sizeof r.placed) == 0;
+}
+
+/* A file that read, plan, forecast and mark refuse alike. */
 static void expect_refused(bytes file, uint32_t number, size_t offset) {
     credits_read_result r = credits_read(file.at, file.length);
     CHECK(r.refusal == number && r.offset == offset && all_zero(&r.book));
+    CHECK(unforecast(forecast(file), number, offset));
     bytes out = block(CREDITS_FILE_MAX), moves = block(CREDITS_MOVES_MAX), text = block(CREDITS_LISTING_MAX);
     CHECK(refused(credits_plan(file.at, file.length, out.at, out.length), number, offset) && untouched(out, 0));
     credits_mark_result m = credits_mark(file.at, file.length, moves.at, moves.length);
@@ -876,6 +976,10 @@ int main(int argc, char **argv) {
     for (size_t i = 0; i < sizeof examples / sizeof examples[0]; i++) try_planned_totals(folder, examples[i]);
     try_wanted(folder);
     try_what_counts(folder);
+    for (size_t i = 0; i < sizeof examples / sizeof examples[0]; i++) try_forecast(folder, examples[i]);
+    try_known_forecasts(folder);
+    try_any_sheet(folder);
+    try_sums_of_caps();
     try_refused_wants(folder);
     try_refused_pairs(folder);
     try_refused_files(folder);

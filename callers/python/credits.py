@@ -1,5 +1,5 @@
-"""libcredits for Python, by ctypes: read, write, mark, plan, list and compare day files, and fulfil wanted totals. include/credits.h says
-what each call does."""
+"""libcredits for Python, by ctypes: read, write, mark, plan, list and compare day files, fulfil wanted totals, and forecast plans.
+include/credits.h says what each call does."""
 import ctypes
 import operator
 import os
@@ -101,6 +101,11 @@ class FulfilResult(ctypes.Structure):
     _fields_ = [('refusal', ctypes.c_uint32), ('offset', ctypes.c_size_t), ('length', ctypes.c_size_t), ('group', ctypes.c_uint32)]
 
 
+class ForecastResult(ctypes.Structure):
+    _fields_ = [('refusal', ctypes.c_uint32), ('offset', ctypes.c_size_t), ('length', ctypes.c_size_t),
+                ('placed', ctypes.c_uint32 * WINDOWS)]
+
+
 def declare(path):
     """The library at a path, with the types of its calls."""
     library = ctypes.CDLL(path)
@@ -110,7 +115,7 @@ def declare(path):
             ('credits_read', given, ReadResult), ('credits_write', [Book] + lent, WriteResult),
             ('credits_mark', given + lent, MarkResult), ('credits_plan', given + lent, WriteResult),
             ('credits_listing', given + lent, WriteResult), ('credits_better', given + given, BetterResult),
-            ('credits_fulfil', given + given + lent, FulfilResult)):
+            ('credits_fulfil', given + given + lent, FulfilResult), ('credits_forecast', given, ForecastResult)):
         call = getattr(library, name)
         call.argtypes, call.restype = arguments, result
     return library
@@ -154,6 +159,13 @@ class Fulfilled(NamedTuple):
     than it can get. The other is None."""
     sheet: list
     group: list
+
+
+class Forecast(NamedTuple):
+    """What a plan will take: the length of the planned file, and for each of 24 windows the credits that it will have placed, which are 0
+    for windows that the book does not have."""
+    length: int
+    placed: list
 
 
 def buffer(length):
@@ -228,3 +240,9 @@ def fulfil(file, wanted):
     seats = len(row) // 4
     windows = len(cells) // seats
     return Fulfilled([cells[windows * seat:][:windows] for seat in range(seats)], None)
+
+
+def forecast(file):
+    """What a plan of a day file will take, told from the file alone. Cells of a sheet that it holds are neither used nor checked."""
+    f = accepted(LIBRARY.credits_forecast(file, len(file)))
+    return Forecast(f.length, list(f.placed))

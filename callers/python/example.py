@@ -1,5 +1,5 @@
-"""Plans, marks, reads, writes, lists and compares the day files of a folder (examples/ of this repository), fulfils wanted totals, and
-checks all that it sees.
+"""Plans, marks, reads, writes, lists and compares the day files of a folder (examples/ of this repository), fulfils wanted totals,
+forecasts plans, and checks all that it sees.
 
     python3 callers/python/example.py [FOLDER]
 """
@@ -9,6 +9,7 @@ import sys
 import credits
 
 FOLDER = pathlib.Path(sys.argv[1] if len(sys.argv) > 1 else pathlib.Path(__file__).resolve().parents[2] / 'examples')
+CHECKED = (credits.read, credits.plan, credits.forecast, credits.mark)  # calls with the same checks of a file
 
 
 def refusal(call, *arguments):
@@ -115,7 +116,7 @@ def try_first_seats():
     for first in (0, 3, 65535):
         book.first_seat = first
         assert refusal(credits.write, book) == (18, 36)
-        for call in (credits.read, credits.plan, credits.mark):
+        for call in CHECKED:
             assert refusal(call, plans[2][:-2] + first.to_bytes(2, 'little')) == (18, 46)
     print('first seats that are not in the book: refused')
 
@@ -141,7 +142,7 @@ def try_balances():
     for balance in (50001, 65535):
         book.carried = [50000, balance]
         assert refusal(credits.write, book) == (19, 38)
-        for call in (credits.read, credits.plan, credits.mark):
+        for call in CHECKED:
             assert refusal(call, plans[0, 4][:-2] + balance.to_bytes(2, 'little')) == (19, 48)
     print('balances that are too high: refused')
 
@@ -168,7 +169,7 @@ def try_weights():
         book.own_weights = one_to_three[:place] + (weight,) + one_to_three[place + 1:]
         assert refusal(credits.write, book) == (20, 36 + 2 * place)
         body = b''.join(number.to_bytes(2, 'little') for number in book.own_weights)
-        for call in (credits.read, credits.plan, credits.mark):
+        for call in CHECKED:
             assert refusal(call, plans[one_to_three][:-16] + body) == (20, 46 + 2 * place)
     print('weights out of bounds or not rising: refused')
 
@@ -244,10 +245,47 @@ def try_any_wants():
     print('wants that are no whole numbers or too great for four bytes, and groups with seats of no book: errors')
 
 
+def placed(book):
+    """What the sheet places in each of 24 windows."""
+    return [sum(row[window] for row in book.sheet) for window in range(credits.WINDOWS)]
+
+
+def try_forecast(day):
+    """Reserve, then plan: a buffer of just that length takes the plan, which places just those credits. One byte less is too short."""
+    file = day.read_bytes()
+    told = credits.forecast(file)
+    out = credits.buffer(told.length)
+    out[:] = [0xee] * told.length
+    short = credits.LIBRARY.credits_plan(file, len(file), out, told.length - 1)
+    assert (short.refusal, short.offset, short.length) == (16, told.length, 0) and bytes(out) == b'\xee' * told.length
+    plan = credits.LIBRARY.credits_plan(file, len(file), out, told.length)
+    assert (plan.refusal, plan.length) == (0, told.length)
+    assert placed(credits.read(bytes(out))) == told.placed
+    assert credits.forecast(bytes(out)) == told
+
+
+def try_forecasts():
+    """Forecasts by hand: two bytes, six for each entry, and the bodies; and of each window the lesser of the supply and the caps."""
+    for name, length, sums in (('k01', 50, [4, 4]), ('k08', 60, [1, 3]), ('k09', 34, [0]), ('k11', 34, [2]), ('k12', 60, [1, 2]),
+                               ('first-k03', 48, [3]), ('balances-k05', 50, [4]), ('weights-k05', 62, [4])):
+        told = credits.forecast((FOLDER / f'{name}.day').read_bytes())
+        assert told == (length, sums + [0] * (credits.WINDOWS - len(sums)))
+        print(f'{name} forecast: {length} bytes, credits placed', *sums)
+    assert credits.forecast((FOLDER / 'full-weights.day').read_bytes()).length == credits.FILE_MAX
+    k08 = (FOLDER / 'k08.day').read_bytes()
+    book = credits.read(k08)
+    assert credits.forecast(with_sheet(book, [[65535, 65535]] * 3)) == credits.forecast(k08)
+    book.has_sheet = 0
+    assert credits.forecast(credits.write(book)) == credits.forecast(k08)
+    print('k08 without a sheet and with one that is not lawful: forecast as before')
+    f = credits.LIBRARY.credits_forecast(None, 0)
+    assert (f.refusal, f.offset, f.length, list(f.placed)) == (1, 0, 0, [0] * credits.WINDOWS)
+
+
 def try_refusals():
     k11 = (FOLDER / 'k11.day').read_bytes()
     for file, number, offset in ((b'', 1, 0), (k11[:-1], 6, 25), (k11 + b'\0', 6, 27)):
-        for call in (credits.read, credits.plan, credits.mark):
+        for call in CHECKED:
             assert refusal(call, file) == (number, offset)
         assert credits.listing(file) == f'refused {number} at {offset}\n'
         print(f'{len(file)} bytes: refused {number} at {offset}')
@@ -276,5 +314,9 @@ for d in days:
 print('planned totals of', len(days), 'examples: a sheet each; one credit more: a group')
 try_wanted()
 try_any_wants()
+for d in days:
+    try_forecast(d)
+print('forecasts of', len(days), 'examples: what their plans then take')
+try_forecasts()
 try_refusals()
 print('Python: all checks passed')

@@ -4,12 +4,13 @@
 //!   bench worst [N]   looks N seconds (60) for books that take long to plan, and for wanted totals that take long
 //!   bench stack       how much stack each call uses
 //!
-//! Columns: "library" is the proved library, "plain Rust" a version in plain Rust that does the same: for plan, better and fulfil the same
-//! method step by step (bench/same_method.rs, bench/same_standard.rs, bench/same_better.rs, bench/same_fulfil.rs), for the other calls the
-//! version of reference.rs. "other method" is the call of reference.rs, "settled alone" the plain Rust of the same method without the last
-//! part of a plan, which makes the settled sheet standard, and "max flow" a planner by maximum flow and bisection (bench/max_flow.rs),
-//! whose sheet is any settled one. Beside fulfil stand the library's "plan" of the same book, and what that would take without the standard
-//! sheet, "settled plan" (bench/wanted.rs).
+//! Columns: "library" is the proved library, "plain Rust" a version in plain Rust that does the same: for plan, better, fulfil and forecast
+//! the same method step by step (bench/same_method.rs, bench/same_standard.rs, bench/same_better.rs, bench/same_fulfil.rs,
+//! bench/same_forecast.rs), for the other calls the version of reference.rs. "other method" is the call of reference.rs, "settled alone" the
+//! plain Rust of the same method without the last part of a plan, which makes the settled sheet standard, and "max flow" a planner by
+//! maximum flow and bisection (bench/max_flow.rs), whose sheet is any settled one. Beside fulfil stand the library's "plan" of the same
+//! book, and what that would take without the standard sheet, "settled plan" (bench/wanted.rs); beside forecast, the library's "plan" of the
+//! same file (bench/forecasts.rs).
 
 use std::fmt::Write;
 use std::hint::black_box;
@@ -19,10 +20,14 @@ mod credits;
 mod reference;
 mod rng;
 
+#[path = "bench/forecasts.rs"]
+mod forecasts;
 #[path = "bench/max_flow.rs"]
 mod max_flow;
 #[path = "bench/same_better.rs"]
 mod same_better;
+#[path = "bench/same_forecast.rs"]
+mod same_forecast;
 #[path = "bench/same_fulfil.rs"]
 mod same_fulfil;
 #[path = "bench/same_method.rs"]
@@ -78,6 +83,7 @@ fn all_tables() {
     mark_table(&mut csv);
     better_table(&mut csv);
     wanted::table(&mut csv);
+    forecasts::table(&mut csv);
     file_table(&mut csv);
     least_table(&mut csv);
     let by_seats = || (1..=8).map(|step| (4 * step, (4 * step, 24)));
@@ -399,15 +405,20 @@ fn better_table(csv: &mut String) {
     }
 }
 
+/// The same book with a first seat, balances and weights.
+fn with_all_parts(rng: &mut Rng, book: Book) -> Book {
+    let book = with_first(rng, book);
+    let book = BALANCES[0].1(rng, book);
+    TABLES[0].1(rng, book)
+}
+
 /// Reading and writing the longest file, with a full book.
 fn file_table(csv: &mut String) {
     let mut rng = Rng::new(13);
     let (mut reading, mut writing) = (Times::default(), Times::default());
     for _ in 0..BOOKS {
         let book = books::dense(&mut rng, 32, 24);
-        let book = with_first(&mut rng, book);
-        let book = BALANCES[0].1(&mut rng, book);
-        let book = TABLES[0].1(&mut rng, book);
+        let book = with_all_parts(&mut rng, book);
         let sheet = planned(&book);
         let file = file_of(&book, Some(&sheet));
         let same = credits::raw::read(&file).book;
@@ -433,16 +444,17 @@ fn file_table(csv: &mut String) {
     line(csv, "file", "write", &names, &writing);
 }
 
-/// Planning, marking, choosing and fulfilling with the smallest books: what a call costs that has next to nothing to do.
+/// Planning, marking, choosing, fulfilling and forecasting with the smallest books: what a call costs that has next to nothing to do.
 fn least_table(csv: &mut String) {
     let mut rng = Rng::new(17);
-    let [mut planning, mut marking, mut choosing, mut fulfilling] = [(); 4].map(|()| Times::default());
+    let [mut planning, mut marking, mut choosing, mut fulfilling, mut telling] = [(); 5].map(|()| Times::default());
     for _ in 0..BOOKS {
         let book = books::dense(&mut rng, 1, 1);
         let file = file_of(&book, None);
         planning.add(side_by_side(&mut planners(&file)[..2], ROUNDS, 256));
         let row = wanted::row_of(&book, &same_standard::totals(&planned(&book)));
         fulfilling.add(side_by_side(&mut wanted::fulfillers(&file, &row)[..2], ROUNDS, 256));
+        telling.add(side_by_side(&mut forecasts::forecasters(&file), ROUNDS, 256));
         let file = file_of(&book, Some(&planned(&book)));
         marking.add(side_by_side(&mut markers(&file), ROUNDS, 256));
         choosing.add(side_by_side(&mut choosers(&file, &file.clone()), ROUNDS, 256));
@@ -453,4 +465,5 @@ fn least_table(csv: &mut String) {
     line(csv, "least", "mark", &names, &marking);
     line(csv, "least", "better", &names, &choosing);
     line(csv, "least", "fulfil", &names, &fulfilling);
+    line(csv, "least", "forecast", &names, &telling);
 }

@@ -1,12 +1,13 @@
 //! The library against the plain Rust version of reference.rs, on random and damaged files and books.
 //!
-//!   compare [N]   N files (200,000) through read, mark, plan and listing, N books through write, N pairs of files through better, and N
-//!                 files with rows of wanted totals through fulfil
+//!   compare [N]   N files (200,000) through read, mark, plan, forecast and listing, N books through write, N pairs of files through
+//!                 better, and N files with rows of wanted totals through fulfil
 //!
 //! Output buffers of any length are compared whole, with bytes around them, and so are the planned files in them. What the papers leave
 //! free is tested by their rules: a chain has the right ends and the right number of moves, all of them possible, and ends in a list that
 //! is higher (mark 2) or equal (mark 3); a sheet for wanted totals is lawful and has just these totals, and a group wants more than it can
-//! get. The first difference ends the run with status 1, and what it was met with is kept under target/compare.
+//! get. A file that is forecast is then planned, and its plan counted. The first difference ends the run with status 1, and what it was met
+//! with is kept under target/compare.
 
 use std::path::PathBuf;
 use std::process::ExitCode;
@@ -24,6 +25,8 @@ mod calls;
 mod chain;
 #[path = "compare/files.rs"]
 mod files;
+#[path = "compare/forecasts.rs"]
+mod forecasts;
 #[path = "compare/memory.rs"]
 mod memory;
 #[path = "compare/pairs.rs"]
@@ -39,7 +42,7 @@ const FILES: usize = 200_000;
 const ENOUGH: usize = 20_000;
 
 /// What was met so far: refusals and marks by number, the ways to meet line 20, what first seats, balances, weights and the step to the
-/// standard sheet did to plans, what came of pairs and of wanted totals, and how long refused rows of these were.
+/// standard sheet did to plans, what was forecast, what came of pairs and of wanted totals, and how long refused rows of these were.
 #[derive(Default)]
 pub struct Seen {
     refusals: [usize; 22],
@@ -50,6 +53,7 @@ pub struct Seen {
     balances: [usize; calls::BALANCES.len()],
     weights: [usize; calls::WEIGHTS.len()],
     standards: [usize; calls::STANDARDS.len()],
+    forecasts: [usize; forecasts::FORECASTS.len()],
     pairs: [usize; pairs::OUTCOMES.len()],
     replies: [usize; wanted::REPLIES.len()],
     lengths: [usize; wanted::LENGTHS.len()],
@@ -83,7 +87,8 @@ impl Seen {
     fn lacks_something(&self) -> bool {
         let counts = self.refusals[1..].iter().chain(&self.line_20).chain(&self.marks[1..]);
         let counts = counts.chain(&self.first_seats).chain(&self.balances).chain(&self.weights);
-        let counts = counts.chain(&self.standards).chain(&self.pairs).chain(&self.replies).chain(&self.lengths);
+        let counts = counts.chain(&self.standards).chain(&self.forecasts);
+        let counts = counts.chain(&self.pairs).chain(&self.replies).chain(&self.lengths);
         counts.copied().min() == Some(0)
     }
 }
@@ -100,6 +105,7 @@ fn report(seen: &Seen) {
     println!("planned: {}", by_name(&calls::BALANCES, &seen.balances));
     println!("planned: {}", by_name(&calls::WEIGHTS, &seen.weights));
     println!("standard sheets: {}", by_name(&calls::STANDARDS, &seen.standards));
+    println!("forecasts: {}", by_name(&forecasts::FORECASTS, &seen.forecasts));
     println!("pairs: {}", by_name(&pairs::OUTCOMES, &seen.pairs));
     println!("wanted totals: {}", by_name(&wanted::REPLIES, &seen.replies));
     println!("rows refused: {}", by_name(&wanted::LENGTHS, &seen.lengths));

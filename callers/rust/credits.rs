@@ -141,6 +141,16 @@ pub enum Fulfilled {
     Group(Vec<u8>),
 }
 
+/// What a plan of a day file will take.
+#[derive(Clone, Copy, Debug, PartialEq, Eq)]
+pub struct Forecast {
+    /// The length of the planned file, and so of the shortest buffer that [`plan`] takes.
+    pub length: usize,
+    /// For each window the credits that it will have placed: the lesser of the supply and the caps there added together. Entries beyond the
+    /// book's windows are 0.
+    pub placed: [u32; WINDOWS],
+}
+
 impl Reason {
     const ALL: [Reason; 21] = [
         Reason::UnderTwoBytes,
@@ -285,6 +295,13 @@ pub fn fulfil(file: &[u8], wanted: &[u32]) -> Result<Fulfilled, Refusal> {
         return Ok(Fulfilled::Group(members.collect()));
     }
     Ok(Fulfilled::Sheet(grid_of(&body[..result.length], wanted.len())))
+}
+
+/// Tells from a day file what a plan of it will take. Cells of a sheet that the file holds are neither used nor checked.
+pub fn forecast(file: &[u8]) -> Result<Forecast, Refusal> {
+    let result = raw::forecast(file);
+    unless_refused(result.refusal, result.offset)?;
+    Ok(Forecast { length: result.length, placed: result.placed })
 }
 
 /// The cells of the sheet body of a book with so many seats, which is at least one.

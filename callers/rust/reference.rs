@@ -11,6 +11,8 @@ mod better;
 mod day_file;
 #[path = "reference/exchange.rs"]
 mod exchange;
+#[path = "reference/forecast.rs"]
+mod forecast;
 #[path = "reference/fulfil.rs"]
 mod fulfil;
 #[path = "reference/listing.rs"]
@@ -31,6 +33,7 @@ mod tests;
 
 pub use better::{better, choose, Better, PairRefusal};
 pub use day_file::{read, write, Layout};
+pub use forecast::{forecast, Forecast};
 pub use fulfil::{fulfil, fulfil_by, sheet_or_group, Fulfilled, Wants};
 pub use listing::listing;
 pub use marker::{feasible, mark, Marked};

@@ -22,7 +22,7 @@ struct Task {
     out: Vec<u8>,
 }
 
-const CALLS: [(&str, extern "C" fn(&mut Task)); 7] = [
+const CALLS: [(&str, extern "C" fn(&mut Task)); 8] = [
     ("read", read_file),
     ("write", write),
     ("mark", mark),
@@ -30,6 +30,7 @@ const CALLS: [(&str, extern "C" fn(&mut Task)); 7] = [
     ("listing", listing),
     ("better", better),
     ("fulfil", fulfil),
+    ("forecast", forecast),
 ];
 
 extern "C" fn read_file(task: &mut Task) {
@@ -52,6 +53,9 @@ extern "C" fn better(task: &mut Task) {
 }
 extern "C" fn fulfil(task: &mut Task) {
     assert_eq!(credits::raw::fulfil(&task.file, &task.row, &mut task.out).refusal, 0);
+}
+extern "C" fn forecast(task: &mut Task) {
+    assert_eq!(credits::raw::forecast(&task.file).refusal, 0);
 }
 
 /// The most that each call uses on full files with and without a chain, its argument or result by value included. Wanted are the totals of

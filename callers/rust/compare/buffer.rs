@@ -13,6 +13,11 @@ impl Buffer {
     /// A buffer for a call that needs `least` bytes: long enough, just so, one byte short, empty, or any.
     pub fn of_about(rng: &mut Rng, least: usize) -> Buffer {
         let length = length_for(rng, least);
+        Buffer::of(rng, length)
+    }
+
+    /// A buffer of just that length.
+    pub fn of(rng: &mut Rng, length: usize) -> Buffer {
         let before: Vec<u8> = (0..length + 2 * MARGIN).map(|_| rng.below(256) as u8).collect();
         Buffer { now: before.clone(), before }
     }

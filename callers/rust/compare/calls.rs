@@ -4,6 +4,7 @@ use super::books;
 use super::buffer::Buffer;
 use super::chain::{self, moves, totals, Bytes};
 use super::credits::raw;
+use super::forecasts::forecast;
 use super::reference::{
     self, settled_sheet, Book, Refusal, Sheet, FILE_LENGTH, MOST_WEIGHT, MOVES_LENGTH, SEATS, WINDOWS,
 };
@@ -52,6 +53,7 @@ pub fn all(rng: &mut Rng, seen: &mut Seen, file: &[u8]) -> Result<(), String> {
     read(seen, file)?;
     mark(rng, seen, file)?;
     plan(rng, seen, file)?;
+    forecast(rng, seen, file)?;
     listing(rng, file)
 }
 

@@ -76,6 +76,16 @@ pub struct FulfilResult {
     pub group: u32,
 }
 
+/// The length of the planned file, and the credits that each window will have placed; all 0 at a refusal.
+#[derive(Clone, Copy, Debug, PartialEq, Eq)]
+#[repr(C)]
+pub struct ForecastResult {
+    pub refusal: u32,
+    pub offset: usize,
+    pub length: usize,
+    pub placed: [u32; 24],
+}
+
 // The sizes that include/credits.h gives these structs on a 64-bit machine.
 const _: () = assert!(size_of::<Book>() == 3304 && size_of::<ReadResult>() == 3320);
 const _: () = assert!(offset_of!(Book, has_first) == 3204 && offset_of!(Book, first) == 3208);
@@ -84,9 +94,11 @@ const _: () = assert!(offset_of!(Book, has_weights) == 3280 && offset_of!(Book, 
 const _: () = assert!(size_of::<MarkResult>() == 32 && size_of::<WriteResult>() == 24);
 const _: () = assert!(size_of::<BetterResult>() == 40 && size_of::<FulfilResult>() == 32);
 const _: () = assert!(offset_of!(FulfilResult, length) == 16 && offset_of!(FulfilResult, group) == 24);
+const _: () = assert!(offset_of!(ForecastResult, length) == 16 && offset_of!(ForecastResult, placed) == 24);
+const _: () = assert!(size_of::<ForecastResult>() == 120);
 
 mod c {
-    use super::{BetterResult, Book, FulfilResult, MarkResult, ReadResult, WriteResult};
+    use super::{BetterResult, Book, ForecastResult, FulfilResult, MarkResult, ReadResult, WriteResult};
 
     extern "C" {
         pub fn credits_read(file: *const u8, file_len: usize) -> ReadResult;
@@ -104,6 +116,7 @@ mod c {
             out: *mut u8,
             out_len: usize,
         ) -> FulfilResult;
+        pub fn credits_forecast(file: *const u8, file_len: usize) -> ForecastResult;
     }
 }
 
@@ -135,4 +148,8 @@ pub fn better(first: &[u8], second: &[u8]) -> BetterResult {
 pub fn fulfil(file: &[u8], wanted: &[u8], out: &mut [u8]) -> FulfilResult {
     let (wanted, wanted_len) = (wanted.as_ptr(), wanted.len());
     unsafe { c::credits_fulfil(file.as_ptr(), file.len(), wanted, wanted_len, out.as_mut_ptr(), out.len()) }
+}
+
+pub fn forecast(file: &[u8]) -> ForecastResult {
+    unsafe { c::credits_forecast(file.as_ptr(), file.len()) }
 }

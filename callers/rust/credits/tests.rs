@@ -1,5 +1,5 @@
 //! The wrapper against the library: paper 01's examples, the standard sheet, first seats, balances, weights, pairs, wanted totals,
-//! refusals, short and empty buffers, calls side by side.
+//! forecasts, refusals, short and empty buffers, calls side by side.
 
 use super::*;
 
@@ -504,6 +504,78 @@ fn wanted_totals_refused() {
     assert_eq!(out[12..], [0xee; 8]);
 }
 
+/// A forecast with these credits in the first windows, and none in the others.
+fn forecast_of<T>(length: usize, credits: &[u32]) -> Result<Forecast, T> {
+    let mut placed = [0; WINDOWS];
+    placed[..credits.len()].copy_from_slice(credits);
+    Ok(Forecast { length, placed })
+}
+
+#[test]
+fn what_a_plan_will_take() {
+    assert_eq!(forecast(&K11), forecast_of(34, &[2]));
+    // The sheet in the file does not matter, nor whether it is lawful.
+    for file in [k8(None), k8(K8_SHEET), k8(Some(&[&[65535, 65535][..]; 3]))].map(|book| file_of(&book)) {
+        assert_eq!(forecast(&file), forecast_of(60, &[1, 3]));
+    }
+    // Another entry each, and their bodies.
+    assert_eq!(forecast(&file_of(&k3(None, None))), forecast_of(40, &[3]));
+    assert_eq!(forecast(&file_of(&k3(Some(2), None))), forecast_of(48, &[3]));
+    assert_eq!(forecast(&file_of(&k5(Some(&[0, 4]), None))), forecast_of(50, &[4]));
+    assert_eq!(forecast(&file_of(&weighted_k5(Some(LOWEST), None))), forecast_of(62, &[4]));
+    // Nothing to place, for want of credits or of caps.
+    assert_eq!(forecast(&file_of(&book(&[0, 7], &[&[5, 0]], None))), forecast_of(40, &[]));
+}
+
+#[test]
+fn caps_that_add_up() {
+    // One below the supply, the same and one above; and 65,536, which is 0 in two bytes.
+    let mut rows = [&[0, 0, 0, 4095][..]; 17];
+    rows[0] = &[4000, 4000, 4000, 4095];
+    rows[16] = &[94, 95, 96, 16];
+    let file = file_of(&book(&[4095; 4], &rows, None));
+    assert_eq!(forecast(&file), forecast_of(340, &[4094, 4095, 4095, 4095]));
+    let largest = book(&[4095; WINDOWS], &[&[4095; WINDOWS][..]; SEATS], None);
+    let largest = Book { first: Some(1), balances: Some([0; SEATS]), weights: Some(BUILT_IN), ..largest };
+    assert_eq!(forecast(&file_of(&largest)), forecast_of(FILE_LENGTH, &[4095; WINDOWS]));
+}
+
+#[test]
+fn forecast_then_plan_then_count() {
+    let low = book(&[9, 9, 9], &[&[1, 4, 9], &[2, 5, 9]], None);
+    let all_parts = Book { first: Some(2), balances: Some(row(&[7])), weights: Some(HIGHEST), ..low.clone() };
+    for file in [k8(None), k8(K8_SHEET), three_by_three(None), low, all_parts].map(|book| file_of(&book)) {
+        let Forecast { length, placed } = forecast(&file).unwrap();
+        let mut out = vec![0xee; length];
+        assert_eq!(plan(&file, &mut out[..length - 1]), refused(Reason::ShortBuffer, length));
+        assert!(out.iter().all(|&byte| byte == 0xee));
+        assert_eq!(plan(&file, &mut out), Ok(length));
+        let sheet = read(&out).unwrap().sheet.unwrap();
+        let counted: [u32; WINDOWS] = std::array::from_fn(|window| sheet.iter().map(|row| row[window] as u32).sum());
+        assert_eq!(placed, counted);
+        assert_eq!(forecast(&out), Ok(Forecast { length, placed }));
+    }
+}
+
+#[test]
+fn forecasts_refused() {
+    let mut high = file_of(&k8(K8_SHEET));
+    high[36..38].copy_from_slice(&4096u16.to_le_bytes());
+    let mut turned = file_of(&Book { first: Some(3), ..k8(K8_SHEET) });
+    *turned.last_mut().unwrap() = 1;
+    for (file, reason, offset) in [
+        (&[][..], Reason::UnderTwoBytes, 0),
+        (&K11[..25], Reason::FileEnd, 25),
+        (&high, Reason::Cap, 36),
+        (&turned, Reason::FirstSeat, 66),
+    ] {
+        assert_eq!(forecast(file), refused(reason, offset));
+        assert_eq!(plan(file, &mut []), refused(reason, offset));
+        let refusal = reason.number();
+        assert_eq!(raw::forecast(file), raw::ForecastResult { refusal, offset, length: 0, placed: [0; WINDOWS] });
+    }
+}
+
 #[test]
 fn calls_side_by_side() {
     let file = file_of(&k8(K8_SHEET));
@@ -515,6 +587,7 @@ fn calls_side_by_side() {
             assert!(!mark(&file).unwrap().passes());
             assert_eq!(better(&file, &expected).unwrap().file, Which::Second);
             assert_eq!(fulfil(&file, &[1, 3, 0]), Ok(Fulfilled::Group(vec![1, 2])));
+            assert_eq!(forecast(&file), forecast_of(60, &[1, 3]));
         }
     };
     std::thread::scope(|scope| (0..4).for_each(|_| drop(scope.spawn(work))));

@@ -8,6 +8,8 @@ mod balance_tests;
 mod better_tests;
 #[path = "first_tests.rs"]
 mod first_tests;
+#[path = "forecast_tests.rs"]
+mod forecast_tests;
 #[path = "fulfil_tests.rs"]
 mod fulfil_tests;
 #[path = "standard_tests.rs"]
