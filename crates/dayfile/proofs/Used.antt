@@ -1,15 +1,18 @@
 -- The used entries of a book and a sheet in memory. Assumes nothing.
 use mathlib.Core.Path.{_≡_, sym, ap, _∙_}
+use mathlib.Core.Bool.{true}
 use mathlib.Core.List.{List, []}
 use Prim.Native.Nat.{ℕ, _≤_, _<_}
 use native.Mathlib.Omega.{arith}
-use lib.ListN.{getD}
+use lib.ListN.{length, getD}
 use Rattle.model.specs.Book.{Grid, cell}
 use Rattle.dayfile.specs.Bounds.{Fit}
-use Rattle.dayfile.specs.Memory.{sizedGrid, bookIn, cellsIn}
+use Rattle.dayfile.specs.Table.{plannedLength}
+use Rattle.dayfile.specs.Memory.{sizedGrid, bookIn, cellsIn, fileWith}
 use Rattle.dayfile.specs.declared.Book as Memory
 use Rattle.dayfile.proofs.Tables.{sized-at, sized-row}
-use Rattle.dayfile.proofs.Held.{seats-in, windows-in}
+use Rattle.dayfile.proofs.Held.{seats-in, windows-in, book-shaped, sheet-shaped}
+use Rattle.dayfile.proofs.Lengths.{planned-length}
 use Rattle.sheet.specs.declared.Sheet.{Sheet}
 use Rattle.sheet.specs.Sheets.{credit, gridOf}
 use Rattle.sheet.proofs.Cells.{credit-cell}
@@ -41,3 +44,8 @@ module _ (m : Memory.Book) where
     -- a book that fits has a small number of seats and windows
     pub range-in : Fit (bookIn m caps) → (m .seats ≤ 32) × (m .windows ≤ 24)
     range-in fit = (omega (arith, seats-in m caps, fit .seats-high), omega (arith, windows-in m caps, fit .windows-high))
+
+    -- the length of a planned file does not hang on the cells of its sheet
+    pub planned-size : (sheet : Grid) → length (fileWith m caps true sheet) ≡ plannedLength (bookIn m caps)
+    unfolding fileWith
+    planned-size sheet = planned-length (bookIn m caps) (cellsIn m sheet) (book-shaped m caps) (sheet-shaped m caps true sheet)

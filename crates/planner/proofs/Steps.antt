@@ -19,8 +19,7 @@ use Rattle.dayfile.specs.declared.Written as Written
 use Rattle.dayfile.proofs.Lines.{stop-in, on-after}
 use Rattle.dayfile.proofs.Answers.{defined-refusal, defined-answer}
 use Rattle.dayfile.proofs.Used.{cell-in}
-use Rattle.dayfile.proofs.Held.{seats-in, windows-in, book-shaped, sheet-shaped}
-use Rattle.dayfile.proofs.Lengths.{planned-length}
+use Rattle.dayfile.proofs.Held.{seats-in, windows-in, sheet-shaped}
 use Rattle.dayfile.proofs.Readings.{read-day}
 use Rattle.planner.specs.Planning.{Planned, Plans}
 
@@ -39,11 +38,6 @@ module _ (m : Memory.Book) (caps g : Grid) where
 
   used-cell : (i j : ℕ) → i < seats b → j < windows b → cell g i j ≡ cell used i j
   used-cell i j li lj = sym (cell-in m g i j (omega (arith, seats-in m caps)) (omega (arith, windows-in m caps)))
-
-  -- the length does not hang on the cells
-  pub planned-size : length (fileWith m caps true g) ≡ plannedLength (bookIn m caps)
-  unfolding fileWith
-  planned-size = planned-length b used (book-shaped m caps) used-sheet
 
   -- a standard grid makes a planned file
   planned-is : Standard (instanceOf (bookIn m caps)) (cell g) → (old new : List ℕ) → new ≡ front (fileWith m caps true g) old

@@ -15,8 +15,9 @@ use Rattle.dayfile.specs.Table.{firstOf, readLines, plannedLength}
 use Rattle.dayfile.specs.Memory.{bookIn, dayBook, fileWith}
 use Rattle.dayfile.proofs.Held.{seats-in, windows-in}
 use Rattle.dayfile.proofs.Readings.{read-refused, read-sound, read-fits}
+use Rattle.dayfile.proofs.Used.{planned-size}
 use Rattle.sheet.specs.Sheets.{gridOf}
-use Rattle.planner.proofs.Steps.{planned-size, planned-as, plan-refused, plan-short, plan-whole}
+use Rattle.planner.proofs.Steps.{planned-as, plan-refused, plan-short, plan-whole}
 use Rattle.planner.proofs.plan.Statement.{statement}
 use Rattle.planner.proofs.plan.Tie as tie
 
