@@ -12,6 +12,9 @@ use Rattle.choice.specs.Numbers.{bodyOf, betterNumbers}
 use Rattle.reply.specs.declared.FulfilResult.{FulfilResult}
 use Rattle.reply.specs.Numbers.{fulfilNumbers}
 use Rattle.fulfil.specs.Fulfilling.{Fulfils}
+use Rattle.forecast.specs.declared.ForecastResult.{ForecastResult}
+use Rattle.forecast.specs.Forecasting.{Forecasts}
+use Rattle.forecast.specs.Numbers.{forecastNumbers}
 use Rattle.answers.specs.declared.CreditsBook.{CreditsBook}
 use Rattle.answers.specs.declared.ReadResult.{ReadResult}
 use Rattle.answers.specs.declared.MarkResult.{MarkResult}
@@ -51,3 +54,7 @@ BettersAs f g r = InNumbers (λ c. betterNumbers c (bodyOf c f g)) (Chooses f g)
 -- credits_fulfil
 abbrev pub FulfilsAs : (file row before after : List ℕ) → FulfilResult → Type 0
 FulfilsAs file row before after r = InNumbers fulfilNumbers (Fulfils file row before after) r
+
+-- credits_forecast
+abbrev pub ForecastsAs : (file : List ℕ) → ForecastResult → Type 0
+ForecastsAs file r = InNumbers forecastNumbers (Forecasts file) r

@@ -1,6 +1,6 @@
 // The library for C, Rust and Python: every public call, exported, in the order of include/credits.h. What crosses is numbers, slices and
 // structs of numbers. The contracts are in specs/Calls.antt.
-ghost use Rattle.credits.specs.Calls.{ReadsAs, WritesAs, MarksAs, PlansAs, ListsAs, BettersAs, FulfilsAs};
+ghost use Rattle.credits.specs.Calls.{ReadsAs, WritesAs, MarksAs, PlansAs, ListsAs, BettersAs, FulfilsAs, ForecastsAs};
 use answers::CreditsBook;
 use answers::MarkResult;
 use answers::ReadResult;
@@ -8,6 +8,7 @@ use answers::WriteResult;
 use better::body_span;
 use better::choose;
 use choice::BetterResult;
+use forecast::ForecastResult;
 use reply::FulfilResult;
 
 // The book and the sheet of a file.
@@ -65,4 +66,12 @@ pub extern "C" fn credits_fulfil(file: &[u8], wanted: &[u8], out: &mut [u8]) -> 
     ensures { λ r. ⌜ FulfilsAs (now (file .entry)) (now (wanted .entry)) (now (out .entry)) (now (out .exit)) r ⌝ }
 {
     FulfilResult::of(fulfil::fulfil(file, wanted, out))
+}
+
+// What a plan of a file will take: the length of the planned file, and the credits that will be placed in each window.
+#[no_mangle]
+pub extern "C" fn credits_forecast(file: &[u8]) -> ForecastResult
+    ensures { λ r. ⌜ ForecastsAs (now (file .entry)) r ⌝ }
+{
+    ForecastResult::of(forecast::forecast(file))
 }

@@ -1,10 +1,13 @@
 -- Down the lines of a table: one line, a group of lines and what comes after it, and what the answer tells.
 -- Assumes nothing.
+use mathlib.Core.Bool.{Bool, true, false, _||_}
 use mathlib.Core.List.{List, [], _∷_, _++_}
 use mathlib.Core.Option.{Option, none, some}
 use mathlib.Core.Path.{_≡_, refl, sym, _∙_, ap, ap₂}
 use Prim.Native.Nat.{ℕ, _+_}
 use native.Mathlib.Omega.{arith}
+use borrow.Author.Tests.{eq-eqb}
+use lib.Dec.{eqb}
 use Rattle.dayfile.specs.Table.{Line, Refusal, line, refuse, orRefuse, firstOf}
 use Rattle.dayfile.specs.Outcome.{NoneHolds, FirstHolds}
 
@@ -61,6 +64,32 @@ none-parts [] ys e = (refl, e)
 none-parts (l ∷ xs) ys e =
     let h = line-none (l .number) (l .place) (firstOf (xs ++ ys)) e in
     let k = none-parts xs ys (h .1) in (sym (on (l .number) (h .0) (sym (k .0))), k .1)
+
+-- ---- the numbers of lines
+
+-- whether a line has this number
+abbrev pub numbered : ℕ → List Line → Bool
+numbered n [] = false
+numbered n (l ∷ ls) = eqb (l .number) n || numbered n ls
+
+either-false : (a b : Bool) → (a || b) ≡ false → (a ≡ false) × (b ≡ false)
+either-false false false e = (refl, refl)
+either-false false true e = absurd (let z : _≡_ {A = ℕ} 0 1 = cc in omega arith)
+either-false true b e = absurd (let z : _≡_ {A = ℕ} 0 1 = cc in omega arith)
+
+-- where none has, no refusal does
+pub unnumbered : (n : ℕ) (ls : List Line) (q : Refusal) → numbered n ls ≡ false → firstOf ls ≡ some q → q .number ≡ n → ⊥
+unnumbered n [] q h e m = let z : _≡_ {A = ℕ} 0 1 = cc in omega arith
+unnumbered n (l ∷ ls) q h e m =
+    let parts = either-false (eqb (l .number) n) (numbered n ls) h in
+    go (l .place) (λ f. unnumbered n ls q (parts .1) f m) (parts .0) e
+  where
+    go : (o : Option ℕ) → (firstOf ls ≡ some q → ⊥) → eqb (l .number) n ≡ false → orRefuse (l .number) o (firstOf ls) ≡ some q → ⊥
+    go none rest other f = rest f
+    go (some p) rest other f =
+        let same : l .number ≡ q .number = cc in
+        let z : _≡_ {A = Bool} true false = sym (eq-eqb (l .number) n (same ∙ m)) ∙ other in
+        let k : _≡_ {A = ℕ} 0 1 = cc in omega arith
 
 -- ---- the first that holds
 

@@ -285,9 +285,13 @@ betterLines f g = sheetLines f ++ (sheetLines g ++ pairLines f g)
 unfoldable pub plannedLength : Book → ℕ
 plannedLength b = length (fileOf b (some (b .caps)))
 
+-- the planner's but for its buffer, on a file: the forecast's
+abbrev pub forecastLines : List ℕ → List Line
+forecastLines f = readLines f
+
 -- the planner, on a file and a buffer
 unfoldable pub planLines : List ℕ → ℕ → List Line
-planLines f room = readLines f ++ bufferLines room (plannedLength (bookOf f))
+planLines f room = forecastLines f ++ bufferLines room (plannedLength (bookOf f))
 
 -- the length of a sheet body: two bytes for each seat and window
 abbrev pub bodyLength : List ℕ → ℕ

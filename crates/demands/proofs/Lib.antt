@@ -6,5 +6,6 @@ pub mod Fairness
 pub mod Better
 pub mod Standard
 pub mod Wanted
+pub mod Forecast
 -- the three demands, and what stands behind them
 pub mod Theorems

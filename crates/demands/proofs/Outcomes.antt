@@ -34,4 +34,5 @@ first =
       better = λ f g r h. (h .defined, h .whose);
       handed-back = handed-back;
       fulfil = λ file row before after r h. h;
+      forecast = λ file r h. (h .defined, h .zeros);
     }

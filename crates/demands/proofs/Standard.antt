@@ -33,7 +33,7 @@ module _ (file : List ℕ) (accepted : NoneHolds (readLines file)) where
           on-after (readLines file) (bufferLines (length before) n) (none-first-of (readLines file) accepted)
           ∙ rw (le-ltb (length before) n long) refl
 
-      whole : r ≡ Whole (plannedLength (bookOf file))
+      pub whole : r ≡ Whole (plannedLength (bookOf file))
       whole = let gives = tells-answer plans free in whole-of r n (gives .1 .0 ∙ ap answer (gives .1 .1 .0))
 
       -- the file with the book's standard sheet

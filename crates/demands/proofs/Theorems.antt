@@ -1,10 +1,11 @@
--- The three demands hold, and so does what is said of the better of two, of the standard sheet and of wanted totals. The statements are
--- in specs/Demands.antt; nothing is assumed.
+-- The three demands hold, and so does what is said of the better of two, of the standard sheet, of wanted totals and of the forecast. The
+-- statements are in specs/Demands.antt; nothing is assumed.
 use Rattle.model.specs.Book.{instanceOf}
 use Rattle.model.proofs.Theorems.{highest-list-exists, highest-lists-equal, standard-exists, standard-one}
 use Rattle.wants.specs.Wanted.{want}
 use Rattle.wants.proofs.Theorems as wants
-use Rattle.demands.specs.Demands.{Demand1, Demand2, Demand3, BetterOfTwo, OneStandardSheet, SheetOrGroup}
+use Rattle.forecast.proofs.Figures.{sheet-places}
+use Rattle.demands.specs.Demands.{Demand1, Demand2, Demand3, BetterOfTwo, OneStandardSheet, SheetOrGroup, ForecastOfPlan}
 use Rattle.demands.proofs.Outcomes.{first}
 use Rattle.demands.proofs.Documents.{lawful-frugal, wasteful-not-non-wasteful}
 use Rattle.demands.proofs.Files.{reads-back, same-bytes}
@@ -12,6 +13,7 @@ use Rattle.demands.proofs.Better.{inside, same-sheet, not-lower, passes
 use Rattle.demands.proofs.Fairness.{passes-exactly, passing-highest, fails, planned, planned-passes}
 use Rattle.demands.proofs.Standard as standard
 use Rattle.demands.proofs.Wanted.{document-cap, told-apart, kept, sheet-read}
+use Rattle.demands.proofs.Forecast.{told-ahead, asks, same-refusal, room-suffices}
 
 -- each call gives a defined outcome or a numbered refusal, and a refusal changes no byte
 pub demand-1 : Demand1
@@ -60,3 +62,8 @@ sheet-or-group =
       kept = kept;
       reads-back = sheet-read;
     }
+
+-- what the forecast tells is what a plan then takes, in bytes and in credits
+pub forecast-of-plan : ForecastOfPlan
+forecast-of-plan =
+    record { told-ahead = told-ahead; asks = asks; same-refusal = same-refusal; room-suffices = room-suffices; any-sheet = sheet-places }

@@ -1,29 +1,29 @@
 -- The three demands, each as one statement over the contracts of the public calls: the reader's `Reads`, the writer's `WritesDay`, the
--- marker's `Marks`, the planner's `Plans`, the listing's `Lists`, of the better of two `Chooses` and `HandsBack`, and of wanted totals
--- `Fulfils`. Behind them stands what the better of two, the standard sheet and wanted totals mean to their reader. Proved in
--- proofs/Theorems.antt.
+-- marker's `Marks`, the planner's `Plans`, the listing's `Lists`, of the better of two `Chooses` and `HandsBack`, of wanted totals
+-- `Fulfils`, and the forecast's `Forecasts`. Behind them stands what the better of two, the standard sheet, wanted totals and the forecast
+-- mean to their reader. Proved in proofs/Theorems.antt.
 use mathlib.Core.Path.{_≡_}
 use mathlib.Core.List.{List, []}
 use mathlib.Core.Logic.{_↔_, _⊎_}
 use mathlib.Core.Option.{some}
 use Prim.Native.Nat.{ℕ, min, _+_, _≤_, _<_}
 use native.Mathlib.Decide.{ℕ-discrete}
-use lib.ListN.{length, take}
+use lib.ListN.{length, getD, take}
 use Rattle.fairness.specs.Sums.{sum, over}
-use Rattle.fairness.specs.Instance.{Instance, Sheet, Wasteful, Feasible, groupCapacity}
+use Rattle.fairness.specs.Instance.{Instance, Sheet, Wasteful, Feasible, placed, groupCapacity}
 use Rattle.fairness.specs.Leximin.{Level, NoHigher, Equal, Higher, profile}
 use Rattle.fairness.specs.Exchange.{Settled, Tied, playAll, PlaysOut}
-use Rattle.model.specs.Book.{Grid, Book, SheetOf, Lawful, cell, instanceOf, totals}
+use Rattle.model.specs.Book.{Grid, Book, SheetOf, Lawful, cell, windows, instanceOf, totals}
 use Rattle.model.specs.Marks.{markOf, resultOf}
 use Rattle.model.specs.Fair.{profileOf, HighestList, StandardSheet}
 use Rattle.dayfile.specs.declared.Day.{Day}
 use Rattle.dayfile.specs.declared.Reading.{Reading}
 use Rattle.dayfile.specs.declared.Written.{Written}
-use Rattle.dayfile.specs.declared.Written.the-variants.{Whole}
+use Rattle.dayfile.specs.declared.Written.the-variants.{Refused, Whole}
 use Rattle.dayfile.specs.Layout.{bookOf, sheetOf, seatsIn, windowsIn, gridAt, sheetStart, sheetSize, sheetBody, Bytes}
 use Rattle.dayfile.specs.Table.{Refusal, readLines, writeLines, markLines, planLines, betterLines, fulfilLines, bufferLines}
-use Rattle.dayfile.specs.Table.{plannedLength, movesRoom}
-use Rattle.dayfile.specs.Outcome.{answer, readFile, NoneHolds, FirstHolds, Defined}
+use Rattle.dayfile.specs.Table.{forecastLines, plannedLength, movesRoom}
+use Rattle.dayfile.specs.Outcome.{turnedAway, answer, readFile, NoneHolds, FirstHolds, Defined}
 use Rattle.dayfile.specs.Memory.{dayBook, daySheet, fileIn, front, written, reading, Reads, WritesDay}
 use Rattle.listing.specs.Listing.{listingMax}
 use Rattle.listing.specs.Calls.{Listed, Lists}
@@ -39,6 +39,8 @@ use Rattle.reply.specs.Numbers.{fulfilNumbers}
 use Rattle.masks.specs.Sets.{bit}
 use Rattle.wants.specs.Wanted.{want, Gives, Fulfillable, Overasks}
 use Rattle.fulfil.specs.Fulfilling.{replied, Right, IsSheet, Fulfils}
+use Rattle.forecast.specs.declared.Foretold.{Foretold}
+use Rattle.forecast.specs.Forecasting.{willPlace, Figures, figuresOf, noFigures, figures, foretold, Forecasts}
 
 -- ---- Demand 1: each call gives a defined outcome or a numbered refusal, and a refusal changes no byte.
 
@@ -75,6 +77,11 @@ pub record Demand1 : Type 0 where
   pub fulfil : (file row before after : List ℕ) (r : Reply) → Fulfils file row before after r →
       Defined (fulfilLines file row (length before)) before after (replied r)
       (λ x. Right file row before after x × (IsSheet x ↔ Fulfillable (bookOf file) (want row)))
+  -- the forecast has no buffer; its answer is the length of the planned file and, of each window, the lesser of supply and caps added
+  -- together; at a refusal all its numbers are 0
+  pub forecast : (file : List ℕ) (r : Foretold) → Forecasts file r →
+      Defined (forecastLines file) [] [] (foretold r) (λ x. x ≡ figuresOf (bookOf file))
+      × ((q : Refusal) → foretold r ≡ turnedAway q → figures r ≡ noFigures)
 
 -- ---- Demand 2: lawful and wasteful are document 000's frugal and not non-wasteful; files written read back the same, and an accepted file
 -- written again has the same bytes.
@@ -213,3 +220,32 @@ pub record SheetOrGroup : Type 0 where
   -- the bytes at the buffer's front that a sheet's reply tells, read cell by cell, are such a sheet
   pub reads-back : (file row before after : List ℕ) (n : ℕ) → Fulfils file row before after (variants.Sheet n) →
       Gives (bookOf file) (want row) (gridAt (take n after) 0 (seatsIn file) (windowsIn file))
+
+-- ---- What a plan will take (paper 02, E8), for its reader
+
+-- the first n bytes of a buffer are a file of this book with a sheet, and this forecast told how many bytes they are, and how many credits
+-- the sheet places in each window
+pub record ToldAhead (b : Book) (n : ℕ) (buffer : List ℕ) (r : Foretold) : Type 0 where
+  pub sheet : Grid
+  pub reads-back : readFile (take n buffer) ≡ answer (b, some sheet)
+  pub answer-is : n ≡ r .length
+  pub length-is : length (take n buffer) ≡ r .length
+  pub placed-are : (j : ℕ) → j < windows b → placed (instanceOf b) (cell sheet) j ≡ getD (r .placed) j 0
+  pub unused : (j : ℕ) → windows b ≤ j → getD (r .placed) j 0 ≡ 0
+
+pub record ForecastOfPlan : Type 0 where
+  -- into whatever buffer a file is planned, its forecast told the length and each window's placed credits
+  pub told-ahead : (file before after : List ℕ) (r : Foretold) (n : ℕ) → Forecasts file r → Plans file before after (Whole n) →
+      ToldAhead (bookOf file) n after r
+  -- the planner's 16 asks for just that length
+  pub asks : (file before after : List ℕ) (r : Foretold) (need : ℕ) → Forecasts file r → Plans file before after (Refused 16 need) →
+      need ≡ r .length
+  -- what the forecast turns away the planner turns away alike, whatever the buffer
+  pub same-refusal : (file before after : List ℕ) (r : Foretold) (w : Written) (q : Refusal) → Forecasts file r →
+      Plans file before after w → foretold r ≡ turnedAway q → written w ≡ turnedAway q
+  -- and what it takes is planned into every buffer of that length and longer
+  pub room-suffices : (file before after : List ℕ) (r : Foretold) (w : Written) (x : Figures) → Forecasts file r →
+      Plans file before after w → foretold r ≡ answer x → r .length ≤ length before → w ≡ Whole (r .length)
+  -- not the planner's sheet alone: every lawful sheet that is not wasteful places just these credits
+  pub any-sheet : (b : Book) (s : Grid) → Lawful b s → (Wasteful (instanceOf b) (cell s) → ⊥) → (j : ℕ) → j < windows b →
+      placed (instanceOf b) (cell s) j ≡ willPlace b j

@@ -1,0 +1,2 @@
+-- What the steps of the forecast show, and what its figures are.
+pub mod Figures
