@@ -125,7 +125,7 @@ pub const WRONG: usize = 3 * ROWS;
 // The counts of a report.
 pub const COUNTS: usize = WRONG + 1;
 
-fn say_count(name: &[u8], n: u32) {
+pub fn say_count(name: &[u8], n: u32) {
     say_text(name);
     say_number(n as usize);
 }

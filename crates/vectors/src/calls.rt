@@ -3,12 +3,14 @@ use answers::Numbers;
 use choice::Choice;
 use dayfile::Book;
 use dayfile::Day;
+use forecast::ForecastResult;
 use reply::FulfilResult;
 use say::checked;
 use say::front;
 use say::numbers;
 use say::replied;
 use say::say_buffer;
+use say::say_count;
 use say::say_hex;
 use say::say_named;
 use say::say_number;
@@ -145,4 +147,23 @@ pub fn fulfil(file: &[u8], row: &[u8], out: &mut [u8]) {
     say_each(b", length ", r.length);
     say_each(b", group ", r.group as usize);
     say_buffer(out);
+}
+
+// One number for each window.
+fn say_windows(numbers: [u32; 24]) {
+    for w in 0..24usize {
+        say_count(b" ", numbers[w]);
+    }
+    say_text(b"\n");
+}
+
+// What a plan of a file will take, in all of its numbers.
+pub fn take(file: &[u8]) {
+    let r = ForecastResult::of(forecast::forecast(file));
+    say_each(b"refusal ", r.refusal as usize);
+    say_each(b", offset ", r.offset);
+    say_each(b", length ", r.length);
+    say_text(b", placed");
+    let placed = r.placed;
+    say_windows(placed);
 }

@@ -26,6 +26,7 @@ fn answer(word: u8, numbers: &[u8], out: &mut [u8]) {
         b'l' => calls::list(file, out),
         b'b' => calls::better(file, second_in(numbers)),
         b'f' => calls::fulfil(file, second_in(numbers), out),
+        b't' => calls::take(file),
         _ => {}
     }
 }
