@@ -123,7 +123,7 @@ def main():
         "fulfil": fulfil_table(tables["fulfil"], "fulfil"),
         "fulfil seats": fulfil_table(tables["fulfil seats"], "seats"),
         "fulfil windows": fulfil_table(tables["fulfil windows"], "windows"),
-        "forecast": table(tables["forecast"], "forecast", two + ["plan"]),
+        "forecast": table(tables["forecast"], "forecast", two),
         "file": table(tables["file"], "the longest file", two),
         "least": table(tables["least"], "one seat, one window", two),
         "seats": table(tables["seats"], "seats", two + ["other method"]),

@@ -6,11 +6,10 @@
 //!
 //! Columns: "library" is the proved library, "plain Rust" a version in plain Rust that does the same: for plan, better, fulfil and forecast
 //! the same method step by step (bench/same_method.rs, bench/same_standard.rs, bench/same_better.rs, bench/same_fulfil.rs,
-//! bench/same_forecast.rs), for the other calls the version of reference.rs. "other method" is the call of reference.rs, "settled alone" the
-//! plain Rust of the same method without the last part of a plan, which makes the settled sheet standard, and "max flow" a planner by
+//! bench/same_forecast.rs), for the other calls the version of reference.rs. "other method" is the call of reference.rs, "settled alone"
+//! the plain Rust of the same method without the last part of a plan, which makes the settled sheet standard, and "max flow" a planner by
 //! maximum flow and bisection (bench/max_flow.rs), whose sheet is any settled one. Beside fulfil stand the library's "plan" of the same
-//! book, and what that would take without the standard sheet, "settled plan" (bench/wanted.rs); beside forecast, the library's "plan" of the
-//! same file (bench/forecasts.rs).
+//! book, and what that would take without the standard sheet, "settled plan" (bench/wanted.rs).
 
 use std::fmt::Write;
 use std::hint::black_box;

@@ -7,7 +7,7 @@ use super::credits::raw;
 use super::reference::{self, Book, Forecast, FILE_LENGTH};
 use super::rng::Rng;
 use super::timing::{side_by_side, Call, Times};
-use super::{heading, line, planners, same_forecast, with_all_parts, BOOKS, ROUNDS};
+use super::{heading, line, names, same_forecast, with_all_parts, BOOKS, ROUNDS};
 
 /// Makes a file of a book.
 type Hand = fn(&mut Rng, Book) -> Vec<u8>;
@@ -23,8 +23,6 @@ fn longest(rng: &mut Rng, book: Book) -> Vec<u8> {
     file
 }
 
-const NAMES: [&str; 3] = ["library", "plain Rust", "plan"];
-
 /// The two that forecast.
 pub fn forecasters(file: &[u8]) -> Vec<Call<'_>> {
     let call = |name, length: fn(&[u8]) -> usize| Call::new(name, move || assert!(length(black_box(file)) > 0));
@@ -34,7 +32,7 @@ pub fn forecasters(file: &[u8]) -> Vec<Call<'_>> {
     ]
 }
 
-/// Both on files of one kind, and the library's plan of the same file.
+/// Both on files of one kind.
 fn times(draw: Draw, hand: Hand) -> Times {
     let mut rng = Rng::new(13);
     let mut times = Times::default();
@@ -42,9 +40,7 @@ fn times(draw: Draw, hand: Hand) -> Times {
         let book = draw(&mut rng, 32, 24);
         let file = hand(&mut rng, book);
         assert_agree(&file);
-        let mut medians = side_by_side(&mut forecasters(&file), ROUNDS, 32);
-        medians.extend(side_by_side(&mut planners(&file)[..1], ROUNDS, 1));
-        times.add(medians);
+        times.add(side_by_side(&mut forecasters(&file), ROUNDS, 32));
     }
     times
 }
@@ -59,9 +55,10 @@ fn assert_agree(file: &[u8]) {
 }
 
 pub fn table(csv: &mut String) {
-    heading("forecast, 32 seats, 24 windows", &NAMES);
-    for ((name, hand), (kind, draw)) in FILES.iter().flat_map(|file| KINDS.map(|kind| (file, kind))) {
-        line(csv, "forecast", &format!("{name}: {kind}"), &NAMES, &times(draw, *hand));
+    let names = names(&forecasters(&[]));
+    heading("forecast, 32 seats, 24 windows", &names);
+    for ((file, hand), (kind, draw)) in FILES.iter().flat_map(|file| KINDS.map(|kind| (file, kind))) {
+        line(csv, "forecast", &format!("{file}: {kind}"), &names, &times(draw, *hand));
     }
     let files = FILES.len() * KINDS.len() * BOOKS;
     println!("On all {files} files library and plain Rust tell the same, and the plan has that length.");
