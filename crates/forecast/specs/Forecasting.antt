@@ -12,7 +12,7 @@ use Rattle.dayfile.specs.Outcome.{Outcome, turnedAway, unless, Defined}
 use Rattle.dayfile.specs.Memory.{sized, refused}
 use Rattle.forecast.specs.declared.Foretold.{Foretold}
 
--- the credits that will be placed in a window: the lesser of the supply and the caps added together
+-- the credits that will be placed in a window, document 000's β_I: the lesser of the supply and the caps added together
 abbrev pub willPlace : Book → ℕ → ℕ
 willPlace b j = min (getD (b .supplies) j 0) (sum (seats b) (λ i. cell (b .caps) i j))
 
