@@ -38,7 +38,7 @@ pub fn grid_of(cells: [u16; 12]) -> Caps {
 }
 
 // And back.
-pub fn cells_of(grid: Caps) -> [u16; 12] {
+fn cells_of(grid: Caps) -> [u16; 12] {
     let mut cells = [0u16; 12];
     for k in 0..12usize {
         let i = k / 3;
@@ -67,6 +67,11 @@ pub fn small_of(day: Day) -> Small {
         has_weights: book.has_weights,
         weights,
     }
+}
+
+// And its sheet.
+pub fn sheet_of(day: Day) -> [u16; 12] {
+    cells_of(day.sheet.to_grid())
 }
 
 // Where the cell of a place lies in a sheet body, counted in fields. The book has at most 3 windows.

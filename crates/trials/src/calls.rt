@@ -1,5 +1,6 @@
 // The library's calls, and what they leave in a buffer whose bytes are all 255 before the call.
 ghost use Prim.Native.Nat.{_≤_};
+use crate::forecasts::foreseen;
 use answers::Numbers;
 use dayfile::Day;
 use dayfile::LONGEST_FILE;
@@ -25,7 +26,7 @@ pub enum Call {
 }
 
 // What a call answered, and what stands in the buffer after it: whether the bytes behind what it wrote are still 255, the first byte, and
-// whether what it wrote is the file it was given, is one that the reader takes, and is one with mark 4.
+// whether what it wrote is the file it was given, is one that the reader takes, is one with mark 4, and is what was forecast of a plan.
 pub struct Seen {
     pub reply: Reply,
     pub kept: bool,
@@ -33,10 +34,13 @@ pub struct Seen {
     pub same: bool,
     pub sound: bool,
     pub settled: bool,
+    pub foreseen: bool,
 }
 
 pub fn read_check(file: &[u8]) -> Reply {
-    checked(sound::check(file))
+    let reading = reader::read(file);
+    let check = reading.check;
+    checked(check)
 }
 
 pub fn mark(file: &[u8], moves: &mut [u8]) -> Numbers {
@@ -84,6 +88,7 @@ fn look(reply: Reply, file: &[u8], out: &[u8]) -> Seen {
         same: check::same(written, file),
         sound: sound.taken,
         settled: numbers.mark == 4,
+        foreseen: foreseen(file, reply, out),
     }
 }
 
@@ -112,12 +117,14 @@ pub fn see_file(call: Call, file: &[u8], room: usize) -> Seen {
     see(call, file, reading.day, room)
 }
 
-// The length of a day's planned file, at the front of a buffer whose bytes are all 255; 0 where it is refused or a byte behind it changed.
+// The length of a day's planned file, at the front of a buffer whose bytes are all 255; 0 where it is refused, was forecast otherwise or a
+// byte behind it changed.
 pub fn plan_day(day: Day, out: &mut [u8]) -> usize {
     let mut file = [0u8; LONGEST_FILE];
     let length = put_day(&mut file, day);
-    let r = replied(planner::plan(front(&file, length), out));
-    if all_from(out, r.length, 255) {
+    let given = front(&file, length);
+    let r = replied(planner::plan(given, out));
+    if all_from(out, r.length, 255) & foreseen(given, r, out) {
         r.length
     } else {
         0

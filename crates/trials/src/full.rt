@@ -12,10 +12,10 @@ use say::front;
 // More bytes than any file has.
 const PLAN_ROOM: usize = LONGEST_FILE + 10;
 
-// Whether a planned file gets mark 4, and planned again stays as it is: the sheet that is given does not count.
+// Whether a planned file gets mark 4, and planned again stays as it is, as forecast: the sheet that is given does not count.
 fn rightly_planned(file: &[u8]) -> bool {
     let again = see_file(Call::Plan, file, LONGEST_FILE);
-    again.kept & again.same & again.settled
+    again.kept & again.same & again.settled & again.foreseen
 }
 
 // A random book of 32 seats and 24 windows.

@@ -5,6 +5,7 @@ use say::say_report;
 use tally::Tally;
 
 pub mod calls;
+pub mod forecasts;
 pub mod full;
 pub mod pairs;
 pub mod refused;

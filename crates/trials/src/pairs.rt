@@ -16,7 +16,7 @@ use draws::small::draw_small;
 use lawful::MOVES_ROOM;
 use oracle::BUILT_IN;
 use oracle::Small;
-use oracle::memory::cells_of;
+use oracle::memory::sheet_of;
 use oracle::memory::small_of;
 use oracle::paths::byte;
 use oracle::paths::play;
@@ -111,7 +111,7 @@ fn same_weights(first: &[u8], second: &[u8]) -> bool {
 fn rank_in(file: &[u8]) -> [u64; 8] {
     let read = reader::read(file);
     let day = read.day;
-    let cells = cells_of(day.sheet.to_grid());
+    let cells = sheet_of(day);
     rank_of(small_of(day), &cells)
 }
 
@@ -184,7 +184,7 @@ fn put_played(file: &[u8], out: &mut [u8]) -> usize {
     let day = read.day;
     let s = small_of(day);
     let caps = s.caps;
-    let played = play(cells_of(day.sheet.to_grid()), &caps, &moves, m.moves);
+    let played = play(sheet_of(day), &caps, &moves, m.moves);
     let cells = played.cells;
     put_small(out, s, true, cells)
 }

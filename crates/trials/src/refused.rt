@@ -30,12 +30,12 @@ fn pick(first: bool, a: usize, b: usize) -> usize {
     if first { a } else { b }
 }
 
-// The answer of the marker or the planner. What the planner writes gets mark 4.
+// The answer of the marker or the planner. The planner's was forecast, and what it writes gets mark 4.
 fn judge_call(tally: Tally, column: usize, seen: Seen, first: Reply, writes: bool) -> Tally
     requires { ⌜ column < 3 ⌝ }
 {
     let r = seen.reply;
-    let done = !writes | !r.taken | seen.settled;
+    let done = !writes | (seen.foreseen & (!r.taken | seen.settled));
     count(
         tally,
         column,
