@@ -121,3 +121,14 @@ room-suffices file before after r w x h plans e long =
     let size = length-told file r h free in
     standard.whole file (none-holds (forecastLines file) free) before after w (subst (λ (k : ℕ). k ≤ length before) size long) plans
     ∙ ap Whole (sym size)
+
+pub too-short : (file before after : List ℕ) (r : Foretold) (w : Written) (x : Figures) → Forecasts file r →
+    Plans file before after w → foretold r ≡ answer x → length before < r .length → written w ≡ turnedAway (refuse 16 (r .length))
+unfolding planLines
+too-short file before after r w x h plans e less =
+    let free : firstOf (forecastLines file) ≡ none = answer-none (h .defined) x e .0 in
+    let size = length-told file r h free in
+    tells-refusal plans (refuse 16 (r .length))
+    (on-after (forecastLines file) _ free
+    ∙ short (length before) (plannedLength (bookOf file)) (subst (λ (k : ℕ). length before < k) size less)
+    ∙ ap (λ (k : ℕ). some (refuse 16 k)) (sym size)) .0

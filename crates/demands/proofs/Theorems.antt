@@ -13,7 +13,7 @@ use Rattle.demands.proofs.Better.{inside, same-sheet, not-lower, passes
 use Rattle.demands.proofs.Fairness.{passes-exactly, passing-highest, fails, planned, planned-passes}
 use Rattle.demands.proofs.Standard as standard
 use Rattle.demands.proofs.Wanted.{document-cap, told-apart, kept, sheet-read}
-use Rattle.demands.proofs.Forecast.{told-ahead, asks, same-refusal, room-suffices}
+use Rattle.demands.proofs.Forecast.{told-ahead, asks, same-refusal, room-suffices, too-short}
 
 -- each call gives a defined outcome or a numbered refusal, and a refusal changes no byte
 pub demand-1 : Demand1
@@ -66,4 +66,11 @@ sheet-or-group =
 -- what the forecast tells is what a plan then takes, in bytes and in credits
 pub forecast-of-plan : ForecastOfPlan
 forecast-of-plan =
-    record { told-ahead = told-ahead; asks = asks; same-refusal = same-refusal; room-suffices = room-suffices; any-sheet = sheet-places }
+    record {
+      told-ahead = told-ahead;
+      asks = asks;
+      same-refusal = same-refusal;
+      room-suffices = room-suffices;
+      too-short = too-short;
+      any-sheet = sheet-places;
+    }

@@ -8,7 +8,7 @@ use mathlib.Core.Logic.{_↔_, _⊎_}
 use mathlib.Core.Option.{some}
 use Prim.Native.Nat.{ℕ, min, _+_, _≤_, _<_}
 use native.Mathlib.Decide.{ℕ-discrete}
-use lib.ListN.{length, getD, take}
+use lib.ListN.{length, getD, take, replicate}
 use Rattle.fairness.specs.Sums.{sum, over}
 use Rattle.fairness.specs.Instance.{Instance, Sheet, Wasteful, Feasible, placed, groupCapacity}
 use Rattle.fairness.specs.Leximin.{Level, NoHigher, Equal, Higher, profile}
@@ -22,7 +22,7 @@ use Rattle.dayfile.specs.declared.Written.{Written}
 use Rattle.dayfile.specs.declared.Written.the-variants.{Refused, Whole}
 use Rattle.dayfile.specs.Layout.{bookOf, sheetOf, seatsIn, windowsIn, gridAt, sheetStart, sheetSize, sheetBody, Bytes}
 use Rattle.dayfile.specs.Table.{Refusal, readLines, writeLines, markLines, planLines, betterLines, fulfilLines, bufferLines}
-use Rattle.dayfile.specs.Table.{forecastLines, plannedLength, movesRoom}
+use Rattle.dayfile.specs.Table.{refuse, forecastLines, plannedLength, movesRoom}
 use Rattle.dayfile.specs.Outcome.{turnedAway, answer, readFile, NoneHolds, FirstHolds, Defined}
 use Rattle.dayfile.specs.Memory.{dayBook, daySheet, fileIn, front, written, reading, Reads, WritesDay}
 use Rattle.listing.specs.Listing.{listingMax}
@@ -40,7 +40,7 @@ use Rattle.masks.specs.Sets.{bit}
 use Rattle.wants.specs.Wanted.{want, Gives, Fulfillable, Overasks}
 use Rattle.fulfil.specs.Fulfilling.{replied, Right, IsSheet, Fulfils}
 use Rattle.forecast.specs.declared.Foretold.{Foretold}
-use Rattle.forecast.specs.Forecasting.{willPlace, Figures, figuresOf, noFigures, figures, foretold, Forecasts}
+use Rattle.forecast.specs.Forecasting.{willPlace, Figures, figuresOf, foretold, Forecasts}
 
 -- ---- Demand 1: each call gives a defined outcome or a numbered refusal, and a refusal changes no byte.
 
@@ -81,7 +81,7 @@ pub record Demand1 : Type 0 where
   -- together; at a refusal all its numbers are 0
   pub forecast : (file : List ℕ) (r : Foretold) → Forecasts file r →
       Defined (forecastLines file) [] [] (foretold r) (λ x. x ≡ figuresOf (bookOf file))
-      × ((q : Refusal) → foretold r ≡ turnedAway q → figures r ≡ noFigures)
+      × ((q : Refusal) → foretold r ≡ turnedAway q → (r .length ≡ 0) × (r .placed ≡ replicate 24 0))
 
 -- ---- Demand 2: lawful and wasteful are document 000's frugal and not non-wasteful; files written read back the same, and an accepted file
 -- written again has the same bytes.
@@ -243,9 +243,11 @@ pub record ForecastOfPlan : Type 0 where
   -- what the forecast turns away the planner turns away alike, whatever the buffer
   pub same-refusal : (file before after : List ℕ) (r : Foretold) (w : Written) (q : Refusal) → Forecasts file r →
       Plans file before after w → foretold r ≡ turnedAway q → written w ≡ turnedAway q
-  -- and what it takes is planned into every buffer of that length and longer
+  -- and what it takes is planned into every buffer of that length and longer, and into no other
   pub room-suffices : (file before after : List ℕ) (r : Foretold) (w : Written) (x : Figures) → Forecasts file r →
       Plans file before after w → foretold r ≡ answer x → r .length ≤ length before → w ≡ Whole (r .length)
+  pub too-short : (file before after : List ℕ) (r : Foretold) (w : Written) (x : Figures) → Forecasts file r →
+      Plans file before after w → foretold r ≡ answer x → length before < r .length → written w ≡ turnedAway (refuse 16 (r .length))
   -- not the planner's sheet alone: every lawful sheet that is not wasteful places just these credits
   pub any-sheet : (b : Book) (s : Grid) → Lawful b s → (Wasteful (instanceOf b) (cell s) → ⊥) → (j : ℕ) → j < windows b →
       placed (instanceOf b) (cell s) j ≡ willPlace b j

@@ -75,7 +75,7 @@ module _ (f : List ℕ) where
   -- a line holds
   pub forecast-refused : (n p : ℕ) → firstOf (forecastLines f) ≡ some (refuse n p) →
       Forecasts f (record { check = Refused n p; length = 0; placed = replicate 24 0 })
-  forecast-refused n p e = record { defined = defined-refusal (refuse n p) e refl refl; zeros = λ q h. refl }
+  forecast-refused n p e = record { defined = defined-refusal (refuse n p) e refl refl; zeros = λ q h. (refl, refl) }
 
   -- none does: the figures are those of what was read, its caps put into an array of arrays
   pub forecast-told : (r : Reading) → Reads f r → firstOf (forecastLines f) ≡ none → (caps : Grid) → caps ≡ gridOf (r .day .caps) →

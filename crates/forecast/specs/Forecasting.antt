@@ -25,9 +25,6 @@ pub record Figures : Type 0 where
 unfoldable pub figuresOf : Book → Figures
 figuresOf b = record { length = plannedLength b; placed = sized 24 (table (windows b) (willPlace b)) }
 
-abbrev pub noFigures : Figures
-noFigures = record { length = 0; placed = replicate 24 0 }
-
 -- what is in memory: the figures, and what the call answers
 abbrev pub figures : Foretold → Figures
 figures r = record { length = r .length; placed = r .placed }
@@ -38,4 +35,4 @@ foretold r = unless (refused (r .check)) (figures r)
 -- the contract: down the planner's lines but for 16, the figures of the file's book; at a refusal they are zeros
 pub record Forecasts (file : List ℕ) (r : Foretold) : Type 0 where
   pub defined : Defined (forecastLines file) [] [] (foretold r) (λ x. x ≡ figuresOf (bookOf file))
-  pub zeros : (q : Refusal) → foretold r ≡ turnedAway q → figures r ≡ noFigures
+  pub zeros : (q : Refusal) → foretold r ≡ turnedAway q → (r .length ≡ 0) × (r .placed ≡ replicate 24 0)
