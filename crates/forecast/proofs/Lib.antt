@@ -1,2 +1,3 @@
--- What the steps of the forecast show, and what its figures are.
+-- What the steps of the forecast show, what its figures mean, and two examples.
 pub mod Figures
+pub mod Examples
