@@ -1,5 +1,5 @@
 -- Two of paper 01's books, by the definitions: K8, where supplies are the lesser, and K10, where the cap is.
-use mathlib.Core.List.{List, [], _∷_, _++_}
+use mathlib.Core.List.{List, [], _∷_}
 use mathlib.Core.Option.{none}
 use mathlib.Core.Path.{_≡_, refl}
 use Prim.Native.Nat.{ℕ}

@@ -1,9 +1,8 @@
 -- `forecast::forecast` meets its contract: what is read and added up.
 use borrow.Author.Needs.{needs}
-use mathlib.Core.Path.{_≡_, sym, ap, subst, _∙_}
+use mathlib.Core.Path.{_≡_, _∙_}
 use mathlib.Core.Option.{none}
 use denote.Ref.{now}
-use Rattle.model.specs.Book.{Grid}
 use Rattle.sheet.specs.Sheets.{gridOf}
 use Rattle.dayfile.specs.Bounds.{Fit}
 use Rattle.dayfile.specs.Table.{firstOf, forecastLines}
