@@ -4,11 +4,11 @@ use mathlib.Core.Bool.{Bool, true, false, _||_}
 use mathlib.Core.List.{List, [], _∷_, _++_}
 use mathlib.Core.Option.{Option, none, some}
 use mathlib.Core.Path.{_≡_, refl, sym, _∙_, ap, ap₂}
-use Prim.Native.Nat.{ℕ, _+_}
+use Prim.Native.Nat.{ℕ, _+_, _≤_, _<_}
 use native.Mathlib.Omega.{arith}
-use borrow.Author.Tests.{eq-eqb}
+use borrow.Author.Tests.{eq-eqb, lt-ltb, le-ltb}
 use lib.Dec.{eqb}
-use Rattle.dayfile.specs.Table.{Line, Refusal, line, refuse, orRefuse, firstOf}
+use Rattle.dayfile.specs.Table.{Line, Refusal, line, refuse, orRefuse, firstOf, line16, bufferLines}
 use Rattle.dayfile.specs.Outcome.{NoneHolds, FirstHolds}
 
 -- this line holds
@@ -64,6 +64,16 @@ none-parts [] ys e = (refl, e)
 none-parts (l ∷ xs) ys e =
     let h = line-none (l .number) (l .place) (firstOf (xs ++ ys)) e in
     let k = none-parts xs ys (h .1) in (sym (on (l .number) (h .0) (sym (k .0))), k .1)
+
+-- ---- line 16, of a buffer of `room` bytes
+
+pub room-short : (room need : ℕ) → room < need → firstOf (bufferLines room need) ≡ some (refuse 16 need)
+unfolding bufferLines line16
+room-short room need l = rw (lt-ltb room need l) refl
+
+pub room-enough : (room need : ℕ) → need ≤ room → firstOf (bufferLines room need) ≡ none
+unfolding bufferLines line16
+room-enough room need l = rw (le-ltb room need l) refl
 
 -- ---- the numbers of lines
 

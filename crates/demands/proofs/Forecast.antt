@@ -6,18 +6,17 @@ use mathlib.Core.Option.{Option, none, some}
 use Prim.Native.Nat.{ℕ, _≤_, _<_}
 use native.Mathlib.Decide.{decLt}
 use native.Mathlib.Omega.{arith}
-use borrow.Author.Tests.{lt-ltb, le-ltb}
 use lib.ListN.{length, take}
 use Rattle.dayfile.specs.declared.Written.{Written}
 use Rattle.dayfile.specs.declared.Written.the-variants.{Refused, Whole}
 use Rattle.dayfile.specs.Layout.{bookOf}
-use Rattle.dayfile.specs.Table.{Refusal, refuse, firstOf, line16, forecastLines, bufferLines, planLines, plannedLength}
+use Rattle.dayfile.specs.Table.{Refusal, refuse, firstOf, forecastLines, bufferLines, planLines, plannedLength}
 use Rattle.dayfile.specs.Table.{contentsLines, lengthLines, valueLines, optionLines, readLines}
 use Rattle.dayfile.specs.Outcome.{turnedAway, answer}
 use Rattle.dayfile.specs.Memory.{written}
 use Rattle.dayfile.proofs.Accepted.{fits}
 use Rattle.dayfile.proofs.Answers.{answered, answer-none, refusal-first, tells-refusal}
-use Rattle.dayfile.proofs.Lines.{stop-in, on-after, none-first-of, none-holds, none-parts, numbered, unnumbered}
+use Rattle.dayfile.proofs.Lines.{stop-in, on-after, none-first-of, none-holds, none-parts, room-short, room-enough, numbered, unnumbered}
 use Rattle.dayfile.proofs.Sound.{sound}
 use Rattle.planner.specs.Planning.{Plans}
 use Rattle.planner.proofs.Theorems as planner
@@ -70,23 +69,15 @@ unfolding readLines contentsLines lengthLines valueLines optionLines
 none-16 file = refl
 
 -- what line 16 asks for
-short : (room need : ℕ) → room < need → firstOf (bufferLines room need) ≡ some (refuse 16 need)
-unfolding bufferLines line16
-short room need l = rw (lt-ltb room need l) refl
-
-long : (room need : ℕ) → need ≤ room → firstOf (bufferLines room need) ≡ none
-unfolding bufferLines line16
-long room need l = rw (le-ltb room need l) refl
-
 needed : (room need k : ℕ) → firstOf (bufferLines room need) ≡ some (refuse 16 k) → k ≡ need
 needed room need k e = go (decLt room need)
   where
     go : Dec (room < need) → k ≡ need
     go (yes l) =
-        let h : some (refuse 16 k) ≡ some (refuse 16 need) = sym e ∙ short room need l in
+        let h : some (refuse 16 k) ≡ some (refuse 16 need) = sym e ∙ room-short room need l in
         let same : refuse 16 k ≡ refuse 16 need = cc in ap (λ (q : Refusal). q .at) same
     go (no d) =
-        let h : none ≡ some (refuse 16 k) = sym (long room need (omega arith)) ∙ e in
+        let h : none ≡ some (refuse 16 k) = sym (room-enough room need (omega arith)) ∙ e in
         absurd (let z : _≡_ {A = ℕ} 0 1 = cc in omega arith)
 
 pub asks : (file before after : List ℕ) (r : Foretold) (need : ℕ) → Forecasts file r → Plans file before after (Refused 16 need) →
@@ -129,5 +120,5 @@ too-short file before after r w x h plans e less =
     let size = length-told file r h free in
     tells-refusal plans (refuse 16 (r .length))
     (on-after (forecastLines file) _ free
-    ∙ short (length before) (plannedLength (bookOf file)) (subst (λ (k : ℕ). length before < k) size less)
+    ∙ room-short (length before) (plannedLength (bookOf file)) (subst (λ (k : ℕ). length before < k) size less)
     ∙ ap (λ (k : ℕ). some (refuse 16 k)) (sym size)) .0

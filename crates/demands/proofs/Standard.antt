@@ -3,7 +3,6 @@ use mathlib.Core.Path.{_≡_, refl, sym, ap, subst, _∙_}
 use mathlib.Core.List.{List}
 use mathlib.Core.Option.{none, some}
 use Prim.Native.Nat.{ℕ, _≤_}
-use borrow.Author.Tests.{le-ltb}
 use lib.ListN.{length, take}
 use Rattle.model.specs.Book.{Grid}
 use Rattle.model.specs.Fair.{StandardSheet}
@@ -12,10 +11,10 @@ use Rattle.dayfile.specs.declared.Written.{Written}
 use Rattle.dayfile.specs.declared.Written.the-variants.{Whole}
 use Rattle.dayfile.specs.Layout.{bookOf}
 use Rattle.dayfile.specs.File.{fileOf}
-use Rattle.dayfile.specs.Table.{firstOf, line16, readLines, bufferLines, planLines, plannedLength}
+use Rattle.dayfile.specs.Table.{firstOf, readLines, bufferLines, planLines, plannedLength}
 use Rattle.dayfile.specs.Outcome.{answer, NoneHolds}
 use Rattle.dayfile.proofs.Answers.{tells-answer}
-use Rattle.dayfile.proofs.Lines.{none-first-of, on-after}
+use Rattle.dayfile.proofs.Lines.{none-first-of, on-after, room-enough}
 use Rattle.planner.specs.Planning.{Plans}
 use Rattle.planner.proofs.Theorems as planner
 use Rattle.demands.proofs.Files.{whole-of}
@@ -28,10 +27,10 @@ module _ (file : List ℕ) (accepted : NoneHolds (readLines file)) where
   module _ (before after : List ℕ) (r : Written) (long : plannedLength (bookOf file) ≤ length before) (plans : Plans file before after r)
     where
       free : firstOf (planLines file (length before)) ≡ none
-      unfolding planLines bufferLines line16
+      unfolding planLines
       free =
           on-after (readLines file) (bufferLines (length before) n) (none-first-of (readLines file) accepted)
-          ∙ rw (le-ltb (length before) n long) refl
+          ∙ room-enough (length before) n long
 
       pub whole : r ≡ Whole (plannedLength (bookOf file))
       whole = let gives = tells-answer plans free in whole-of r n (gives .1 .0 ∙ ap answer (gives .1 .1 .0))

@@ -6,7 +6,7 @@ use mathlib.Core.Option.{none, some}
 use Prim.Native.Nat.{ℕ, _*_, _≤_, _<_}
 use native.Mathlib.Decide.{decLt}
 use native.Mathlib.Omega.{arith}
-use borrow.Author.Tests.{eq-eqb, ne-eqb, lt-ltb, le-ltb}
+use borrow.Author.Tests.{eq-eqb, ne-eqb}
 use lib.ListN.{length, drop, getD}
 use Rattle.fairness.specs.Wanted.{Grants}
 use Rattle.fairness.proofs.WantedTotals.{same-cells}
@@ -16,9 +16,9 @@ use Rattle.dayfile.specs.declared.Book as Memory
 use Rattle.dayfile.specs.declared.Reading.{Reading}
 use Rattle.dayfile.specs.File.{bytesOf, flat}
 use Rattle.dayfile.specs.Layout.{bookOf, seatsIn, windowsIn}
-use Rattle.dayfile.specs.Table.{refuse, firstOf, line16, line21, readLines, rowLines, bufferLines, bodyLength, fulfilLines}
+use Rattle.dayfile.specs.Table.{refuse, firstOf, line21, readLines, rowLines, bufferLines, bodyLength, fulfilLines}
 use Rattle.dayfile.specs.Memory.{cellsIn, bookIn, front, Reads}
-use Rattle.dayfile.proofs.Lines.{stop-in, on-after, none-parts}
+use Rattle.dayfile.proofs.Lines.{stop-in, on-after, none-parts, room-short, room-enough}
 use Rattle.dayfile.proofs.Accepted.{seats-are, windows-are}
 use Rattle.dayfile.proofs.Answers.{defined-refusal, defined-answer}
 use Rattle.dayfile.proofs.Grids.{sized-flat-length}
@@ -51,21 +51,21 @@ module _ (f row : List ℕ) (room : ℕ) where
 
   module _ (passed : line21 f row ≡ none) (need : ℕ) (need-is : need ≡ bodyLength f) where
     pub lent-short : room < need → some (refuse 16 need) ≡ firstOf (lentLines f row room)
-    unfolding rowLines bufferLines line16
-    lent-short l = rw (passed, ← need-is, lt-ltb room need l) refl
+    unfolding rowLines
+    lent-short l = rw (passed, ← need-is) (sym (room-short room need l))
 
     pub lent-passes : need ≤ room → none ≡ firstOf (lentLines f row room)
-    unfolding rowLines bufferLines line16
-    lent-passes l = rw (passed, ← need-is, le-ltb room need l) refl
+    unfolding rowLines
+    lent-passes l = rw (passed, ← need-is) (sym (room-enough room need l))
 
 -- no line of the two holds, so the buffer is long enough
 pub lent-room : (f row : List ℕ) (room : ℕ) → firstOf (lentLines f row room) ≡ none → bodyLength f ≤ room
-unfolding rowLines bufferLines line16
+unfolding rowLines
 lent-room f row room e = go (decLt room (bodyLength f)) (none-parts (rowLines f row) (bufferLines room (bodyLength f)) e .1)
   where
     go : Dec (room < bodyLength f) → firstOf (bufferLines room (bodyLength f)) ≡ none → bodyLength f ≤ room
     go (no d) h = omega arith
-    go (yes l) h = absurd (let z : _≡_ {A = ℕ} 0 1 = (let h′ = rw (lt-ltb room (bodyLength f) l) at h in cc) in omega arith)
+    go (yes l) h = absurd (let z : _≡_ {A = ℕ} 0 1 = (let s = room-short room (bodyLength f) l in cc) in omega arith)
 
 -- ---- a grid in memory that grants the wants of a book in memory is a sheet that gives them
 

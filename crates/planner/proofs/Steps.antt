@@ -6,17 +6,16 @@ use mathlib.Core.Option.{none, some}
 use Prim.Native.Nat.{ℕ, _≤_, _<_}
 use native.Mathlib.Omega.{arith}
 use lib.ListN.{length}
-use borrow.Author.Tests.{lt-ltb, le-ltb}
 use Rattle.fairness.specs.Standard.{Standard}
 use Rattle.model.specs.Book.{Book, Grid, SheetOf, cell, seats, windows, instanceOf}
 use Rattle.model.proofs.Agree.{agree-standard}
 use Rattle.dayfile.specs.Layout.{bookOf}
-use Rattle.dayfile.specs.Table.{refuse, firstOf, line16, readLines, bufferLines, planLines, plannedLength}
+use Rattle.dayfile.specs.Table.{refuse, firstOf, readLines, bufferLines, planLines, plannedLength}
 use Rattle.dayfile.specs.Memory.{sizedGrid, bookIn, dayBook, fileWith, front, Reads}
 use Rattle.dayfile.specs.declared.Book as Memory
 use Rattle.dayfile.specs.declared.Reading.{Reading}
 use Rattle.dayfile.specs.declared.Written as Written
-use Rattle.dayfile.proofs.Lines.{stop-in, on-after}
+use Rattle.dayfile.proofs.Lines.{stop-in, on-after, room-short, room-enough}
 use Rattle.dayfile.proofs.Answers.{defined-refusal, defined-answer}
 use Rattle.dayfile.proofs.Used.{cell-in}
 use Rattle.dayfile.proofs.Held.{seats-in, windows-in, sheet-shaped}
@@ -77,13 +76,11 @@ module _ (f old : List ℕ) where
 
     -- the buffer is too short
     pub plan-short : length old < need → Plans f old old (Written.the-variants.Refused 16 need)
-    unfolding bufferLines line16
-    plan-short l = defined-refusal (refuse 16 need) (lines-end ∙ rw (lt-ltb (length old) need l) refl) refl refl
+    plan-short l = defined-refusal (refuse 16 need) (lines-end ∙ room-short (length old) need l) refl refl
 
     -- the whole file
     pub plan-whole : need ≤ length old → (new : List ℕ) (n : ℕ) → n ≡ need → Planned (dayBook (r .day)) old new →
         Plans f old new (Written.the-variants.Whole n)
-    unfolding bufferLines line16
     plan-whole l new n e planned =
-        defined-answer n (lines-end ∙ rw (le-ltb (length old) need l) refl) refl
+        defined-answer n (lines-end ∙ room-enough (length old) need l) refl
         (e ∙ need-is ∙ ap plannedLength same, subst (λ (x : Book). Planned x old new) same planned)
