@@ -15,6 +15,7 @@ pub mod ReadWrites
 pub mod Accepted
 pub mod Bodies
 pub mod Pairs
+pub mod Idle
 pub mod Lengths
 pub mod Held
 pub mod Used

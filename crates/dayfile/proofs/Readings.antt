@@ -2,14 +2,16 @@
 -- Assumes nothing.
 use mathlib.Core.List.{List, []}
 use mathlib.Core.Option.{none, some}
-use mathlib.Core.Path.{_≡_, refl, sym, subst}
+use mathlib.Core.Path.{_≡_, refl, sym, ap, subst, _∙_}
 use Prim.Native.Nat.{ℕ}
 use native.Mathlib.Omega.{arith}
+use Rattle.model.specs.Book.{Grid}
+use Rattle.sheet.specs.Sheets.{gridOf}
 use Rattle.dayfile.specs.Bounds.{Fit}
 use Rattle.dayfile.specs.Layout.{bookOf, sheetOf}
 use Rattle.dayfile.specs.Table.{refuse, firstOf, readLines}
 use Rattle.dayfile.specs.Outcome.{Defined}
-use Rattle.dayfile.specs.Memory.{Holds, dayBook, daySheet, noBook, refused, readingAs, Reads}
+use Rattle.dayfile.specs.Memory.{Holds, bookIn, dayBook, daySheet, noBook, refused, readingAs, Reads}
 use Rattle.dayfile.specs.declared.Check.{Check}
 use Rattle.dayfile.specs.declared.Check.the-variants.{Refused, Sound}
 use Rattle.dayfile.specs.declared.Day.{Day}
@@ -65,3 +67,11 @@ module _ (f : List ℕ) where
 
     pub read-fits : firstOf (readLines f) ≡ none → Fit (dayBook (r .day))
     read-fits e = subst Fit (sym (read-day e .0)) (fits f (sound f e))
+
+    -- the same of its book where the caps were put into an array of arrays
+    module _ (free : firstOf (readLines f) ≡ none) (caps : Grid) (same : caps ≡ gridOf (r .day .caps)) where
+      pub read-book : bookIn (r .day .book) caps ≡ bookOf f
+      read-book = ap (bookIn (r .day .book)) same ∙ read-day free .0
+
+      pub read-book-fits : Fit (bookIn (r .day .book) caps)
+      read-book-fits = subst Fit (sym read-book) (fits f (sound f free))

@@ -9,7 +9,7 @@ use lib.Dec.{leb, ltb, eqb}
 use lib.ListN.{length}
 use Rattle.fairness.specs.Sums.{sum}
 use Rattle.model.specs.Lowest.{lowest, when, orElse, andThen, isSome}
-use Rattle.model.specs.Book.{Book, balancesOf, weightsOf}
+use Rattle.model.specs.Book.{Book, seats, balancesOf, weightsOf, isIdle}
 use Rattle.dayfile.specs.Layout.{field, count, contentsEnd, kind, start, size, kindAt, startAt, sizeAt, entryOf, ends}
 use Rattle.dayfile.specs.Layout.{seatsIn, windowsIn, bookOf}
 use Rattle.dayfile.specs.File.{fileOf}
@@ -169,6 +169,12 @@ line15 f =
     andThen (entryOf f 4)
     (λ e. offset (cellAt f 1) (lowest (windowsIn f) (λ j. ltb (field f (cellAt f 1 j)) (placedIn f e j))))
 
+-- ---- planner and forecast only
+
+-- 22: idle seat, whose caps are all zero | that seat's class
+unfoldable pub line22 : List ℕ → Option ℕ
+line22 f = offset (cellAt f 0) (lowest (seats (bookOf f)) (isIdle (bookOf f)))
+
 -- ---- wanted totals
 
 -- 21: row not 4 bytes per seat | 0
@@ -250,6 +256,9 @@ optionLines f = line 18 (line18 f) ∷ line 19 (line19 f) ∷ line 20 (line20 f)
 unfoldable pub markerLines : List ℕ → List Line
 markerLines f = line 13 (line13 f) ∷ line 14 (line14 f) ∷ line 15 (line15 f) ∷ []
 
+unfoldable pub idleLines : List ℕ → List Line
+idleLines f = line 22 (line22 f) ∷ []
+
 unfoldable pub rowLines : List ℕ → List ℕ → List Line
 rowLines f row = line 21 (line21 f row) ∷ []
 
@@ -287,7 +296,7 @@ plannedLength b = length (fileOf b (some (b .caps)))
 
 -- the planner's but for its buffer, on a file: the forecast's
 abbrev pub forecastLines : List ℕ → List Line
-forecastLines f = readLines f
+forecastLines f = readLines f ++ idleLines f
 
 -- the planner, on a file and a buffer
 unfoldable pub planLines : List ℕ → ℕ → List Line

@@ -16,20 +16,18 @@ use Rattle.fairness.specs.Leximin.{table}
 use Rattle.fairness.proofs.Sums.{sum-eq}
 use Rattle.fairness.proofs.StandardTotals.{placed-most}
 use Rattle.model.specs.Book.{Book, Grid, Lawful, cell, windows, instanceOf}
-use Rattle.sheet.specs.Sheets.{gridOf}
 use Rattle.dayfile.specs.declared.Book as Memory
-use Rattle.dayfile.specs.declared.Check.the-variants.{Refused, Sound}
-use Rattle.dayfile.specs.declared.Reading.{Reading}
+use Rattle.dayfile.specs.declared.Check.the-variants.{Sound}
 use Rattle.dayfile.specs.Layout.{bookOf}
-use Rattle.dayfile.specs.Table.{refuse, firstOf, plannedLength, forecastLines}
-use Rattle.dayfile.specs.Memory.{sized, bookIn, fileWith, refused, Reads}
+use Rattle.dayfile.specs.Table.{Refusal, firstOf, plannedLength, forecastLines}
+use Rattle.dayfile.specs.Outcome.{turnedAway}
+use Rattle.dayfile.specs.Memory.{sized, bookIn, fileWith, refused}
 use Rattle.dayfile.proofs.Answers.{answered, defined-refusal, defined-answer, tells-answer}
 use Rattle.dayfile.proofs.Held.{seats-in, windows-in}
-use Rattle.dayfile.proofs.Readings.{read-day}
 use Rattle.dayfile.proofs.Tables.{sized-at, sized-length}
 use Rattle.dayfile.proofs.Used.{cap-in, supply-in, planned-size}
 use Rattle.forecast.specs.declared.Foretold.{Foretold}
-use Rattle.forecast.specs.Forecasting.{willPlace, Figures, figuresOf, figures, Forecasts}
+use Rattle.forecast.specs.Forecasting.{willPlace, Figures, figuresOf, figures, foretold, Forecasts}
 
 -- ---- what will be placed, of a book in memory
 
@@ -73,20 +71,17 @@ made n xs = record { length = n; placed = xs }
 
 module _ (f : List ℕ) where
   -- a line holds
-  pub forecast-refused : (n p : ℕ) → firstOf (forecastLines f) ≡ some (refuse n p) →
-      Forecasts f (record { check = Refused n p; length = 0; placed = replicate 24 0 })
-  forecast-refused n p e = record { defined = defined-refusal (refuse n p) e refl refl; zeros = λ q h. (refl, refl) }
+  pub forecast-refused : (r : Foretold) (q : Refusal) → firstOf (forecastLines f) ≡ some q → foretold r ≡ turnedAway q →
+      (r .length ≡ 0) × (r .placed ≡ replicate 24 0) → Forecasts f r
+  forecast-refused r q e is zeros = record { defined = defined-refusal q e is refl; zeros = λ p h. zeros }
 
-  -- none does: the figures are those of what was read, its caps put into an array of arrays
-  pub forecast-told : (r : Reading) → Reads f r → firstOf (forecastLines f) ≡ none → (caps : Grid) → caps ≡ gridOf (r .day .caps) →
-      (n : ℕ) (xs : List ℕ) → let b : Book = bookIn (r .day .book) caps in n ≡ figuresOf b .length → xs ≡ figuresOf b .placed →
+  -- none does: the figures are those of the file's book, which is in memory
+  pub forecast-told : firstOf (forecastLines f) ≡ none → (m : Memory.Book) (caps : Grid) → bookIn m caps ≡ bookOf f →
+      (n : ℕ) (xs : List ℕ) → n ≡ figuresOf (bookIn m caps) .length → xs ≡ figuresOf (bookIn m caps) .placed →
       Forecasts f (record { check = Sound; length = n; placed = xs })
-  forecast-told r reads free caps e n xs long credits =
-      let same : bookIn (r .day .book) caps ≡ bookOf f = ap (bookIn (r .day .book)) e ∙ read-day f r reads free .0 in
-      let are : made n xs ≡ figuresOf (bookIn (r .day .book) caps) =
-      ap₂ made long credits in
+  forecast-told free m caps same n xs long credits =
       record {
-        defined = defined-answer (made n xs) free refl (are ∙ ap figuresOf same);
+        defined = defined-answer (made n xs) free refl (ap₂ made long credits ∙ ap figuresOf same);
         zeros = λ q h. absurd (let z : _≡_ {A = ℕ} 0 1 = cc in omega arith);
       }
 

@@ -1,11 +1,15 @@
 // What a plan of a day file will take: the length of the planned file, and the credits that will be placed in each window.
 ghost use mathlib.Core.Path.{_≡_};
 ghost use Prim.Native.Nat.{min, _≤_};
+ghost use lib.ListN.{replicate};
+ghost use Rattle.dayfile.specs.Table.{refuse};
+ghost use Rattle.dayfile.specs.Outcome.{turnedAway};
 ghost use Rattle.dayfile.specs.Memory.{bookIn};
-ghost use Rattle.forecast.specs.Forecasting.{figuresOf, Forecasts};
+ghost use Rattle.forecast.specs.Forecasting.{figuresOf, foretold, Forecasts};
 ghost use Rattle.forecast.specs.Numbers.{forecastNumbers};
 use dayfile::Book;
 use dayfile::Check;
+use idle::check_idle;
 use sheet::Caps;
 use sheet::placed;
 use store::file_length;
@@ -49,6 +53,17 @@ fn to_place(book: Book, caps: &Caps) -> [u32; 24]
     credits
 }
 
+// A refusal, and zeros.
+fn turned_away(number: u8, at: usize) -> Foretold
+    ensures { λ r. ⌜ (foretold r ≡ turnedAway (refuse number at)) × ((r .length ≡ 0) × (r .placed ≡ replicate 24 0)) ⌝ }
+{
+    Foretold {
+        check: Check::Refused { number, at },
+        length: 0,
+        placed: [0u32; 24],
+    }
+}
+
 // What a plan of this file will take, or the refusal.
 pub fn forecast(file: &[u8]) -> Foretold
     ensures { λ r. ⌜ Forecasts (now (file .entry)) r ⌝ }
@@ -56,14 +71,13 @@ pub fn forecast(file: &[u8]) -> Foretold
     let reading = reader::read(file);
     let check = reading.check;
     if let Check::Refused { number, at } = check {
-        return Foretold {
-            check: Check::Refused { number, at },
-            length: 0,
-            placed: [0u32; 24],
-        };
+        return turned_away(number, at);
     }
     let book = reading.day.book;
     let caps = reading.day.caps.to_grid();
+    if let Check::Refused { number, at } = check_idle(file, book, &caps) {
+        return turned_away(number, at);
+    }
     let length = file_length(book, true);
     let placed = to_place(book, &caps);
     Foretold {

@@ -1,17 +1,18 @@
--- The tests of a book's sheets mean what they say. Assumes nothing.
+-- The tests of a book's sheets and of its seats mean what they say. Assumes nothing.
 use mathlib.Core.Path.{_≡_, refl, sym, ap}
 use mathlib.Core.Bool.{Bool, true, not, true≢false}
 use mathlib.Core.Option.{Option, none, some}
 use mathlib.Core.Logic.{_↔_}
 use mathlib.Core.List.{[]}
-use Prim.Native.Nat.{ℕ}
+use Prim.Native.Nat.{ℕ, _<_}
 use lib.Dec.{eqb, ltb}
 use lib.ListN.{length, getD}
 use borrow.Author.Tests.{eqb-true, eq-eqb, ltb-false, le-ltb, not-true, not-false}
 use Rattle.fairness.specs.Instance.{placed}
 use Rattle.model.specs.Lowest.{lowest, isSome}
-use Rattle.model.specs.Book.{Book, Grid, cell, seats, windows, instanceOf, SheetOf, Lawful, isSheet, isLawful}
-use Rattle.model.proofs.Tests.{and-true}
+use Rattle.model.specs.Book.{Book, Grid, cell, seats, windows, instanceOf, SheetOf, Lawful, Idle, isSheet, isLawful, isIdle}
+use Rattle.model.proofs.Tests.{and-true, true-not-false}
+use Rattle.model.proofs.Tests as tests
 use Rattle.model.proofs.Lowest.{Fails, lowest-none, lowest-fails}
 
 -- no number below n passes
@@ -72,3 +73,20 @@ lawful-test b s = (to, from)
               (λ i li. not-true _ (none-passes (windows b) (above i) .1 (λ j lj. le-ltb _ _ (h .within i j li lj)))),
           none-passes (windows b) over .1 (λ j lj. le-ltb _ _ (h .fits j lj)),
         )
+
+pub idle-test : (b : Book) (i : ℕ) → (isIdle b i ≡ true) ↔ Idle b i
+unfolding isIdle
+idle-test b i = (
+  λ e j lj. eqb-true _ _ (not-false _ (none-passes (windows b) used .0 e j lj)),
+  λ h. none-passes (windows b) used .1 (λ j lj. ap not (eq-eqb _ _ (h j lj))),
+)
+  where
+    used : ℕ → Bool
+    used j = not (eqb (cell (b .caps) i j) 0)
+
+-- no seat is idle
+pub none-idle-test : (b : Book) → (lowest (seats b) (isIdle b) ≡ none) ↔ ((i : ℕ) → i < seats b → Idle b i → ⊥)
+none-idle-test b = (
+  λ e i li h. true-not-false _ (idle-test b i .1 h) (lowest-none (seats b) (isIdle b) e i li),
+  λ h. lowest-fails (seats b) (isIdle b) (λ i li. tests.not-true _ (λ e. h i li (idle-test b i .0 e))),
+)

@@ -109,7 +109,11 @@ SheetOf b s = Shaped (seats b) (windows b) s
 abbrev pub Lawful : Book → Grid → Type 0
 Lawful b s = Feasible (instanceOf b) (cell s)
 
--- the same two, as tests that compute: a sheet of the book, and a lawful one
+-- paper 02's idle seat: its caps are all zero
+abbrev pub Idle : Book → ℕ → Type 0
+Idle b i = (j : ℕ) → j < windows b → cell (b .caps) i j ≡ 0
+
+-- the same three, as tests that compute: a sheet of the book, a lawful one, an idle seat
 unfoldable pub isSheet : Book → Grid → Bool
 isSheet b s =
     eqb (length s) (seats b) && not (isSome (lowest (seats b) (λ i. not (eqb (length (getD s i [])) (windows b)))))
@@ -118,6 +122,9 @@ unfoldable pub isLawful : Book → Grid → Bool
 isLawful b s =
     not (isSome (lowest (seats b) (λ i. isSome (lowest (windows b) (λ j. ltb (cell (b .caps) i j) (cell s i j))))))
     && not (isSome (lowest (windows b) (λ j. ltb (getD (b .supplies) j 0) (placed (instanceOf b) (cell s) j))))
+
+unfoldable pub isIdle : Book → ℕ → Bool
+isIdle b i = not (isSome (lowest (windows b) (λ j. not (eqb (cell (b .caps) i j) 0))))
 
 -- each seat's total
 unfoldable pub totals : Book → Grid → List ℕ

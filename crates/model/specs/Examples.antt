@@ -4,8 +4,8 @@
 use mathlib.Core.Path.{_≡_}
 use mathlib.Core.List.{List, [], _∷_}
 use mathlib.Core.Option.{none, some}
-use Prim.Native.Nat.{ℕ}
-use Rattle.model.specs.Book.{Book, Grid, SheetOf, Lawful, withFirst, withBalances, withWeights, totals}
+use Prim.Native.Nat.{ℕ, _<_}
+use Rattle.model.specs.Book.{Book, Grid, SheetOf, Lawful, Idle, seats, withFirst, withBalances, withWeights, totals}
 use Rattle.model.specs.Marks.{markOf, resultOf}
 
 pub record Example : Type 0 where
@@ -15,13 +15,14 @@ pub record Example : Type 0 where
   pub moves : ℕ
   pub sums : List ℕ
 
--- an example holds by the rules
+-- an example holds by the rules; as paper 02 says, its book has no idle seat
 pub record Holds (e : Example) : Type 0 where
   pub a-sheet : SheetOf (e .book) (e .sheet)
   pub lawful : Lawful (e .book) (e .sheet)
   pub marked : resultOf (markOf (e .book) (e .sheet)) .mark ≡ e .mark
   pub counted : resultOf (markOf (e .book) (e .sheet)) .moves ≡ e .moves
   pub summed : totals (e .book) (e .sheet) ≡ e .sums
+  pub none-idle : (i : ℕ) → i < seats (e .book) → Idle (e .book) i → ⊥
 
 abbrev book : List ℕ → List ℕ → Grid → Book
 book classes supplies caps =

@@ -10,16 +10,14 @@ use Rattle.fairness.specs.Standard.{Standard}
 use Rattle.model.specs.Book.{Book, Grid, SheetOf, cell, seats, windows, instanceOf}
 use Rattle.model.proofs.Agree.{agree-standard}
 use Rattle.dayfile.specs.Layout.{bookOf}
-use Rattle.dayfile.specs.Table.{refuse, firstOf, readLines, bufferLines, planLines, plannedLength}
-use Rattle.dayfile.specs.Memory.{sizedGrid, bookIn, dayBook, fileWith, front, Reads}
+use Rattle.dayfile.specs.Table.{refuse, firstOf, forecastLines, bufferLines, planLines, plannedLength}
+use Rattle.dayfile.specs.Memory.{sizedGrid, bookIn, fileWith, front}
 use Rattle.dayfile.specs.declared.Book as Memory
-use Rattle.dayfile.specs.declared.Reading.{Reading}
 use Rattle.dayfile.specs.declared.Written as Written
 use Rattle.dayfile.proofs.Lines.{stop-in, on-after, room-short, room-enough}
 use Rattle.dayfile.proofs.Answers.{defined-refusal, defined-answer}
 use Rattle.dayfile.proofs.Used.{cell-in}
 use Rattle.dayfile.proofs.Held.{seats-in, windows-in, sheet-shaped}
-use Rattle.dayfile.proofs.Readings.{read-day}
 use Rattle.planner.specs.Planning.{Planned, Plans}
 
 -- ---- what is planned, of a book in memory
@@ -39,7 +37,7 @@ module _ (m : Memory.Book) (caps g : Grid) where
   used-cell i j li lj = sym (cell-in m g i j (omega (arith, seats-in m caps)) (omega (arith, windows-in m caps)))
 
   -- a standard grid makes a planned file
-  planned-is : Standard (instanceOf (bookIn m caps)) (cell g) → (old new : List ℕ) → new ≡ front (fileWith m caps true g) old
+  pub planned-is : Standard (instanceOf (bookIn m caps)) (cell g) → (old new : List ℕ) → new ≡ front (fileWith m caps true g) old
       → Planned (bookIn m caps) old new
   unfolding instanceOf fileWith
   planned-is standard old new w =
@@ -49,29 +47,21 @@ module _ (m : Memory.Book) (caps g : Grid) where
         bytes = w;
       }
 
--- caps that were read and put into an array of arrays
-pub planned-as : (m : Memory.Book) (caps read g : Grid) → caps ≡ read → Standard (instanceOf (bookIn m caps)) (cell g)
-    → (old new : List ℕ) → new ≡ front (fileWith m caps true g) old → Planned (bookIn m read) old new
-planned-as m caps read g e standard old new w =
-    subst (λ (x : Grid). Planned (bookIn m x) old new) e (planned-is m caps g standard old new w)
-
 -- ---- the answers
 
 module _ (f old : List ℕ) where
-  -- a line of the reader's holds
-  pub plan-refused : (n p : ℕ) → firstOf (readLines f) ≡ some (refuse n p) → Plans f old old (Written.the-variants.Refused n p)
+  -- a line that is not of the buffer holds
+  pub plan-refused : (n p : ℕ) → firstOf (forecastLines f) ≡ some (refuse n p) → Plans f old old (Written.the-variants.Refused n p)
   unfolding planLines
-  plan-refused n p e = defined-refusal (refuse n p) (stop-in (readLines f) _ (refuse n p) e) refl refl
+  plan-refused n p e = defined-refusal (refuse n p) (stop-in (forecastLines f) _ (refuse n p) e) refl refl
 
-  module _ (r : Reading) (reads : Reads f r) (free : firstOf (readLines f) ≡ none)
-      (need : ℕ) (need-is : need ≡ plannedLength (dayBook (r .day))) where
-    same : dayBook (r .day) ≡ bookOf f
-    same = read-day f r reads free .0
-
+  -- none does, and the file's book is in memory
+  module _ (free : firstOf (forecastLines f) ≡ none) (m : Memory.Book) (caps : Grid) (same : bookIn m caps ≡ bookOf f)
+      (need : ℕ) (need-is : need ≡ plannedLength (bookIn m caps)) where
     lines-end : firstOf (planLines f (length old)) ≡ firstOf (bufferLines (length old) need)
     unfolding planLines
     lines-end =
-        on-after (readLines f) (bufferLines (length old) (plannedLength (bookOf f))) free
+        on-after (forecastLines f) (bufferLines (length old) (plannedLength (bookOf f))) free
         ∙ ap (λ (k : ℕ). firstOf (bufferLines (length old) k)) (sym (need-is ∙ ap plannedLength same))
 
     -- the buffer is too short
@@ -79,7 +69,7 @@ module _ (f old : List ℕ) where
     plan-short l = defined-refusal (refuse 16 need) (lines-end ∙ room-short (length old) need l) refl refl
 
     -- the whole file
-    pub plan-whole : need ≤ length old → (new : List ℕ) (n : ℕ) → n ≡ need → Planned (dayBook (r .day)) old new →
+    pub plan-whole : need ≤ length old → (new : List ℕ) (n : ℕ) → n ≡ need → Planned (bookIn m caps) old new →
         Plans f old new (Written.the-variants.Whole n)
     plan-whole l new n e planned =
         defined-answer n (lines-end ∙ room-enough (length old) need l) refl

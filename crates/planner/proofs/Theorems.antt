@@ -13,9 +13,10 @@ use Rattle.dayfile.specs.declared.Written.{Written}
 use Rattle.dayfile.specs.Bounds.{Fit}
 use Rattle.dayfile.specs.Layout.{bookOf, sheetOf}
 use Rattle.dayfile.specs.File.{fileOf}
-use Rattle.dayfile.specs.Table.{readLines, planLines, bufferLines, plannedLength}
+use Rattle.dayfile.specs.Table.{readLines, forecastLines, planLines, bufferLines, plannedLength}
 use Rattle.dayfile.specs.Outcome.{answer, readFile, NoneHolds}
 use Rattle.dayfile.specs.Memory.{written}
+use Rattle.dayfile.proofs.Idle.{read-free}
 use Rattle.dayfile.proofs.Lines.{none-first-of, none-parts, none-holds}
 use Rattle.dayfile.proofs.Lengths.{planned-length}
 use Rattle.dayfile.proofs.Theorems.{accepted-exactly, accepted-fits, written-reads-back}
@@ -44,9 +45,10 @@ module _
     fit : Fit (bookOf file)
     unfolding planLines
     fit =
-        let free = none-parts (readLines file) (bufferLines (length before) (plannedLength (bookOf file)))
+        let free = none-parts (forecastLines file) (bufferLines (length before) (plannedLength (bookOf file)))
         (none-first-of (planLines file (length before)) none-hold) .0 in
-        accepted-fits file (bookOf file) (sheetOf file) (accepted-exactly file .1 (none-holds (readLines file) free)) .0
+        let accepted = none-holds (readLines file) (read-free file free) in
+        accepted-fits file (bookOf file) (sheetOf file) (accepted-exactly file .1 accepted) .0
 
     -- the answer is its length
     pub told-length : written r ≡ answer (length theFile)

@@ -7,6 +7,7 @@ ghost use Rattle.planner.specs.Planning.{Plans};
 use dayfile::Book;
 use dayfile::Check;
 use dayfile::Written;
+use idle::check_idle;
 use sheet::Caps;
 
 // The standard sheet of the book that is in memory.
@@ -30,6 +31,10 @@ pub fn plan(file: &[u8], out: &mut [u8]) -> Written
         return Written::Refused { number, at };
     }
     let book = reading.day.book;
+    let caps = reading.day.caps.to_grid();
+    if let Check::Refused { number, at } = check_idle(file, book, &caps) {
+        return Written::Refused { number, at };
+    }
     let need = store::file_length(book, true);
     if out.len() < need {
         return Written::Refused {
@@ -37,7 +42,6 @@ pub fn plan(file: &[u8], out: &mut [u8]) -> Written
             at: need,
         };
     }
-    let caps = reading.day.caps.to_grid();
     let sheet = planned_sheet(book, caps);
     let length = store::put_file(out, book, &caps, true, &sheet);
     Written::Whole { length }
