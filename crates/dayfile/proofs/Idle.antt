@@ -5,7 +5,7 @@ use mathlib.Core.List.{List}
 use mathlib.Core.Logic.{_↔_}
 use mathlib.Core.Option.{none, some}
 use Prim.Native.Nat.{ℕ, _<_}
-use Rattle.model.specs.Book.{Idle, seats, isIdle}
+use Rattle.model.specs.Book.{Idle, NoneIdle, seats, isIdle}
 use Rattle.model.proofs.Tests.{not-true}
 use Rattle.model.proofs.Lowest.{lowest-is}
 use Rattle.model.proofs.Books.{idle-test, none-idle-test}
@@ -18,7 +18,7 @@ use Rattle.dayfile.proofs.Search.{offset-none}
 
 module _ (f : List ℕ) where
   -- it holds nowhere exactly where no seat is idle
-  pub none-22 : (line22 f ≡ none) ↔ ((i : ℕ) → i < seats (bookOf f) → Idle (bookOf f) i → ⊥)
+  pub none-22 : (line22 f ≡ none) ↔ NoneIdle (bookOf f)
   unfolding line22
   none-22 = (
     λ e. none-idle-test (bookOf f) .0 (offset-none (cellAt f 0) _ e),
@@ -46,8 +46,7 @@ module _ (f : List ℕ) where
   read-free e = none-parts (readLines f) (idleLines f) e .0
 
   -- of an accepted file none holds where no seat is idle
-  pub forecast-free : firstOf (readLines f) ≡ none → ((i : ℕ) → i < seats (bookOf f) → Idle (bookOf f) i → ⊥) →
-      firstOf (forecastLines f) ≡ none
+  pub forecast-free : firstOf (readLines f) ≡ none → NoneIdle (bookOf f) → firstOf (forecastLines f) ≡ none
   unfolding idleLines
   forecast-free e h = on-after (readLines f) (idleLines f) e ∙ rw (none-22 f .1 h) refl
 

@@ -11,11 +11,12 @@ use Rattle.dayfile.specs.declared.Written.{Written}
 use Rattle.dayfile.specs.declared.Written.the-variants.{Refused, Whole}
 use Rattle.dayfile.specs.Layout.{bookOf}
 use Rattle.dayfile.specs.Table.{Refusal, refuse, firstOf, forecastLines, bufferLines, planLines, plannedLength}
-use Rattle.dayfile.specs.Table.{contentsLines, lengthLines, valueLines, optionLines, readLines}
+use Rattle.dayfile.specs.Table.{contentsLines, lengthLines, valueLines, optionLines, readLines, idleLines}
 use Rattle.dayfile.specs.Outcome.{turnedAway, answer}
 use Rattle.dayfile.specs.Memory.{written}
 use Rattle.dayfile.proofs.Accepted.{fits}
 use Rattle.dayfile.proofs.Answers.{answered, answer-none, refusal-first, tells-refusal}
+use Rattle.dayfile.proofs.Idle.{read-free}
 use Rattle.dayfile.proofs.Lines.{stop-in, on-after, none-first-of, none-holds, none-parts, room-short, room-enough, numbered, unnumbered}
 use Rattle.dayfile.proofs.Sound.{sound}
 use Rattle.planner.specs.Planning.{Plans}
@@ -51,7 +52,7 @@ module _ (file before after : List ℕ) (r : Foretold) (n : ℕ) (h : Forecasts 
   told-ahead =
       let here = planned file before after n plans in
       let full = here .standard .standard .settled .full in
-      let few = fits file (sound file free) .windows-high in
+      let few = fits file (sound file (read-free file free)) .windows-high in
       record {
         sheet = here .sheet;
         reads-back = here .reads-back;
@@ -65,7 +66,7 @@ module _ (file before after : List ℕ) (r : Foretold) (n : ℕ) (h : Forecasts 
 
 -- no line of the forecast's has this number
 none-16 : (file : List ℕ) → numbered 16 (forecastLines file) ≡ false
-unfolding readLines contentsLines lengthLines valueLines optionLines
+unfolding readLines contentsLines lengthLines valueLines optionLines idleLines
 none-16 file = refl
 
 -- what line 16 asks for

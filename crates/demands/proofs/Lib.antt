@@ -7,5 +7,6 @@ pub mod Better
 pub mod Standard
 pub mod Wanted
 pub mod Forecast
+pub mod Idle
 -- the three demands, and what stands behind them
 pub mod Theorems

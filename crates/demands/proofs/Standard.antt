@@ -11,7 +11,7 @@ use Rattle.dayfile.specs.declared.Written.{Written}
 use Rattle.dayfile.specs.declared.Written.the-variants.{Whole}
 use Rattle.dayfile.specs.Layout.{bookOf}
 use Rattle.dayfile.specs.File.{fileOf}
-use Rattle.dayfile.specs.Table.{firstOf, readLines, bufferLines, planLines, plannedLength}
+use Rattle.dayfile.specs.Table.{firstOf, forecastLines, bufferLines, planLines, plannedLength}
 use Rattle.dayfile.specs.Outcome.{answer, NoneHolds}
 use Rattle.dayfile.proofs.Answers.{tells-answer}
 use Rattle.dayfile.proofs.Lines.{none-first-of, on-after, room-enough}
@@ -20,7 +20,7 @@ use Rattle.planner.proofs.Theorems as planner
 use Rattle.demands.proofs.Files.{whole-of}
 use Rattle.demands.proofs.Fairness.{planned-free, the-planned}
 
-module _ (file : List ℕ) (accepted : NoneHolds (readLines file)) where
+module _ (file : List ℕ) (taken : NoneHolds (forecastLines file)) where
   abbrev n : ℕ
   n = plannedLength (bookOf file)
 
@@ -29,7 +29,7 @@ module _ (file : List ℕ) (accepted : NoneHolds (readLines file)) where
       free : firstOf (planLines file (length before)) ≡ none
       unfolding planLines
       free =
-          on-after (readLines file) (bufferLines (length before) n) (none-first-of (readLines file) accepted)
+          on-after (forecastLines file) (bufferLines (length before) n) (none-first-of (forecastLines file) taken)
           ∙ room-enough (length before) n long
 
       pub whole : r ≡ Whole (plannedLength (bookOf file))

@@ -1,11 +1,11 @@
--- The three demands hold, and so does what is said of the better of two, of the standard sheet, of wanted totals and of the forecast. The
--- statements are in specs/Demands.antt; nothing is assumed.
+-- The three demands hold, and so does what is said of the better of two, of the standard sheet, of wanted totals, of the forecast and of
+-- idle seats. The statements are in specs/Demands.antt; nothing is assumed.
 use Rattle.model.specs.Book.{instanceOf}
 use Rattle.model.proofs.Theorems.{highest-list-exists, highest-lists-equal, standard-exists, standard-one}
 use Rattle.wants.specs.Wanted.{want}
 use Rattle.wants.proofs.Theorems as wants
 use Rattle.forecast.proofs.Figures.{sheet-places}
-use Rattle.demands.specs.Demands.{Demand1, Demand2, Demand3, BetterOfTwo, OneStandardSheet, SheetOrGroup, ForecastOfPlan}
+use Rattle.demands.specs.Demands.{Demand1, Demand2, Demand3, BetterOfTwo, OneStandardSheet, SheetOrGroup, ForecastOfPlan, IdleSeats}
 use Rattle.demands.proofs.Outcomes.{first}
 use Rattle.demands.proofs.Documents.{lawful-frugal, wasteful-not-non-wasteful}
 use Rattle.demands.proofs.Files.{reads-back, same-bytes}
@@ -13,6 +13,7 @@ use Rattle.demands.proofs.Better.{inside, same-sheet, not-lower, passes
 use Rattle.demands.proofs.Fairness.{passes-exactly, passing-highest, fails, planned, planned-passes}
 use Rattle.demands.proofs.Standard as standard
 use Rattle.demands.proofs.Wanted.{document-cap, told-apart, kept, sheet-read}
+use Rattle.demands.proofs.Idle as idle
 use Rattle.demands.proofs.Forecast.{told-ahead, asks, same-refusal, room-suffices, too-short}
 
 -- each call gives a defined outcome or a numbered refusal, and a refusal changes no byte
@@ -29,7 +30,8 @@ demand-2 =
       same-bytes = same-bytes;
     }
 
--- the marker passes exactly the fairest sheets, the planner's always pass, and the chain of a failing sheet improves it
+-- the marker passes exactly the fairest sheets, the planner's always pass, and every book without an idle seat is planned; the chain of a
+-- failing sheet improves it
 pub demand-3 : Demand3
 demand-3 =
     record {
@@ -40,6 +42,7 @@ demand-3 =
       fails = fails;
       planned = planned;
       planned-passes = planned-passes;
+      plans = idle.plans;
     }
 
 -- of two hand-ins the one that is handed back has the higher list, and passes where either does
@@ -73,4 +76,20 @@ forecast-of-plan =
       room-suffices = room-suffices;
       too-short = too-short;
       any-sheet = sheet-places;
+    }
+
+-- planner and forecast say 22 of just the books with an idle seat, at the class of the lowest; no other call does
+pub idle-seats : IdleSeats
+idle-seats =
+    record {
+      either = idle.either;
+      not-planned = idle.not-planned;
+      not-forecast = idle.not-forecast;
+      class-there = idle.class-there;
+      forecasts = idle.forecasts;
+      read = idle.read;
+      write = idle.write;
+      mark = idle.mark;
+      better = idle.better;
+      fulfil = idle.fulfil;
     }

@@ -1,26 +1,26 @@
 -- The three demands, each as one statement over the contracts of the public calls: the reader's `Reads`, the writer's `WritesDay`, the
 -- marker's `Marks`, the planner's `Plans`, the listing's `Lists`, of the better of two `Chooses` and `HandsBack`, of wanted totals
--- `Fulfils`, and the forecast's `Forecasts`. Behind them stands what the better of two, the standard sheet, wanted totals and the forecast
--- mean to their reader. Proved in proofs/Theorems.antt.
+-- `Fulfils`, and the forecast's `Forecasts`. Behind them stands what the better of two, the standard sheet, wanted totals, the forecast and
+-- idle seats mean to their reader. Proved in proofs/Theorems.antt.
 use mathlib.Core.Path.{_≡_}
 use mathlib.Core.List.{List, []}
 use mathlib.Core.Logic.{_↔_, _⊎_}
-use mathlib.Core.Option.{some}
-use Prim.Native.Nat.{ℕ, min, _+_, _≤_, _<_}
+use mathlib.Core.Option.{Option, some}
+use Prim.Native.Nat.{ℕ, min, _+_, _*_, _≤_, _<_}
 use native.Mathlib.Decide.{ℕ-discrete}
 use lib.ListN.{length, getD, take, replicate}
 use Rattle.fairness.specs.Sums.{sum, over}
 use Rattle.fairness.specs.Instance.{Instance, Sheet, Wasteful, Feasible, placed, groupCapacity}
 use Rattle.fairness.specs.Leximin.{Level, NoHigher, Equal, Higher, profile}
 use Rattle.fairness.specs.Exchange.{Settled, Tied, playAll, PlaysOut}
-use Rattle.model.specs.Book.{Grid, Book, SheetOf, Lawful, cell, windows, instanceOf, totals}
+use Rattle.model.specs.Book.{Grid, Book, SheetOf, Lawful, Idle, NoneIdle, cell, seats, windows, instanceOf, totals}
 use Rattle.model.specs.Marks.{markOf, resultOf}
 use Rattle.model.specs.Fair.{profileOf, HighestList, StandardSheet}
 use Rattle.dayfile.specs.declared.Day.{Day}
 use Rattle.dayfile.specs.declared.Reading.{Reading}
 use Rattle.dayfile.specs.declared.Written.{Written}
 use Rattle.dayfile.specs.declared.Written.the-variants.{Refused, Whole}
-use Rattle.dayfile.specs.Layout.{bookOf, sheetOf, seatsIn, windowsIn, gridAt, sheetStart, sheetSize, sheetBody, Bytes}
+use Rattle.dayfile.specs.Layout.{bookOf, sheetOf, field, start, seatsIn, windowsIn, gridAt, sheetStart, sheetSize, sheetBody, Bytes}
 use Rattle.dayfile.specs.Table.{Refusal, readLines, writeLines, markLines, planLines, betterLines, fulfilLines, bufferLines}
 use Rattle.dayfile.specs.Table.{refuse, forecastLines, plannedLength, movesRoom}
 use Rattle.dayfile.specs.Outcome.{turnedAway, answer, readFile, NoneHolds, FirstHolds, Defined}
@@ -110,8 +110,8 @@ pub record Demand2 : Type 0 where
       (w ≡ Whole (length file)) × (after ≡ front file before)
 
 -- ---- Demand 3: the marker passes a lawful sheet exactly when its sorted list of levels equals the highest of all lawful sheets; the
--- planner's sheet always passes; the chain of a failing sheet, played move by move, is possible at every turn and ends in a lawful sheet
--- with a higher list.
+-- planner's sheet always passes, and by paper 02, E9, there is one of every book without an idle seat; the chain of a failing sheet, played
+-- move by move, is possible at every turn and ends in a lawful sheet with a higher list.
 
 -- an accepted file with a lawful sheet, and what the marker answers with a buffer that is long enough
 pub record Marked (file : List ℕ) (b : Book) (s : Grid) (before after : List ℕ) (r : Marking) : Type 0 where
@@ -158,6 +158,9 @@ pub record Demand3 : Type 0 where
   pub planned-passes : (file before after : List ℕ) (n : ℕ) → Plans file before after (Whole n) →
       (moves moves′ : List ℕ) (r : Marking) → movesRoom ≤ length moves → Marks (take n after) moves moves′ r →
       told r ≡ answer (record { mark = 4; window = 0; seat = 0; moves = 0 })
+  -- so it is of every accepted book without an idle seat: given a buffer that is long enough, the planner plans it
+  pub plans : (file : List ℕ) (b : Book) (s : Option Grid) → readFile file ≡ answer (b, s) → NoneIdle b →
+      (before after : List ℕ) (r : Written) → plannedLength b ≤ length before → Plans file before after r → r ≡ Whole (plannedLength b)
 
 -- ---- The better of two hand-ins (paper 02, E1), for its reader
 
@@ -187,8 +190,8 @@ pub record OneStandardSheet : Type 0 where
   -- every book has one, and no other
   pub there : (b : Book) → (s : Grid) × StandardSheet b s
   pub no-other : (b : Book) (s t : Grid) → StandardSheet b s → StandardSheet b t → s ≡ t
-  -- of an accepted file the planner writes the same bytes to any two buffers that are long enough
-  pub same-plan : (file : List ℕ) → NoneHolds (readLines file) → (before after before′ after′ : List ℕ) (r r′ : Written) →
+  -- of a file that it does not turn away the planner writes the same bytes to any two buffers that are long enough
+  pub same-plan : (file : List ℕ) → NoneHolds (forecastLines file) → (before after before′ after′ : List ℕ) (r r′ : Written) →
       plannedLength (bookOf file) ≤ length before → plannedLength (bookOf file) ≤ length before′ →
       Plans file before after r → Plans file before′ after′ r′ →
       (r ≡ Whole (plannedLength (bookOf file))) × ((r′ ≡ r)
@@ -251,3 +254,38 @@ pub record ForecastOfPlan : Type 0 where
   -- not the planner's sheet alone: every lawful sheet that is not wasteful places just these credits
   pub any-sheet : (b : Book) (s : Grid) → Lawful b s → (Wasteful (instanceOf b) (cell s) → ⊥) → (j : ℕ) → j < windows b →
       placed (instanceOf b) (cell s) j ≡ willPlace b j
+
+-- ---- Idle seats (paper 02, E9), for their reader
+
+-- the lowest idle seat of a book
+pub record LowestIdle (b : Book) (i : ℕ) : Type 0 where
+  pub of-book : i < seats b
+  pub idle : Idle b i
+  pub lowest : (k : ℕ) → k < i → Idle b k → ⊥
+
+-- an accepted file of a book whose lowest idle seat this is
+pub record WithIdle (file : List ℕ) (b : Book) (i : ℕ) : Type 0 where
+  pub sheet : Option Grid
+  pub accepted : readFile file ≡ answer (b, sheet)
+  pub lowest : LowestIdle b i
+
+pub record IdleSeats : Type 0 where
+  -- every book has a lowest idle seat, or none is idle
+  pub either : (b : Book) → ((i : ℕ) × LowestIdle b i) ⊎ NoneIdle b
+  -- of a book that has one the planner says 22, whatever the buffer, and so does the forecast, at that seat's class
+  pub not-planned : (file : List ℕ) (b : Book) (i : ℕ) → WithIdle file b i → (before after : List ℕ) (r : Written) →
+      Plans file before after r → written r ≡ turnedAway (refuse 22 (start file 0 + 2 * i))
+  pub not-forecast : (file : List ℕ) (b : Book) (i : ℕ) → WithIdle file b i → (r : Foretold) →
+      Forecasts file r → foretold r ≡ turnedAway (refuse 22 (start file 0 + 2 * i))
+  pub class-there : (file : List ℕ) (b : Book) (i : ℕ) → WithIdle file b i → getD (b .classes) i 0 ≡ field file (start file 0 + 2 * i)
+  -- of an accepted book that has none both figures are told (for the planner see demand 3)
+  pub forecasts : (file : List ℕ) (b : Book) (s : Option Grid) → readFile file ≡ answer (b, s) → NoneIdle b →
+      (r : Foretold) → Forecasts file r → foretold r ≡ answer (figuresOf b)
+  -- and no other call says 22: files with an idle seat are read, written, marked, compared and given wanted totals as before
+  pub read : (file : List ℕ) (r : Reading) (p : ℕ) → Reads file r → reading r ≡ turnedAway (refuse 22 p) → ⊥
+  pub write : (d : Day) (before after : List ℕ) (r : Written) (p : ℕ) → WritesDay d before after r →
+      written r ≡ turnedAway (refuse 22 p) → ⊥
+  pub mark : (file before after : List ℕ) (r : Marking) (p : ℕ) → Marks file before after r → told r ≡ turnedAway (refuse 22 p) → ⊥
+  pub better : (f g : List ℕ) (r : Choice) (p : ℕ) → Chooses f g r → sideOf r ≡ turnedAway (refuse 22 p) → ⊥
+  pub fulfil : (file row before after : List ℕ) (r : Reply) (p : ℕ) → Fulfils file row before after r →
+      replied r ≡ turnedAway (refuse 22 p) → ⊥

@@ -4,13 +4,13 @@ use mathlib.Core.Bool.{Bool, true, not, true≢false}
 use mathlib.Core.Option.{Option, none, some}
 use mathlib.Core.Logic.{_↔_}
 use mathlib.Core.List.{[]}
-use Prim.Native.Nat.{ℕ, _<_}
+use Prim.Native.Nat.{ℕ}
 use lib.Dec.{eqb, ltb}
 use lib.ListN.{length, getD}
 use borrow.Author.Tests.{eqb-true, eq-eqb, ltb-false, le-ltb, not-true, not-false}
 use Rattle.fairness.specs.Instance.{placed}
 use Rattle.model.specs.Lowest.{lowest, isSome}
-use Rattle.model.specs.Book.{Book, Grid, cell, seats, windows, instanceOf, SheetOf, Lawful, Idle, isSheet, isLawful, isIdle}
+use Rattle.model.specs.Book.{Book, Grid, cell, seats, windows, instanceOf, SheetOf, Lawful, Idle, NoneIdle, isSheet, isLawful, isIdle}
 use Rattle.model.proofs.Tests.{and-true, true-not-false}
 use Rattle.model.proofs.Tests as tests
 use Rattle.model.proofs.Lowest.{Fails, lowest-none, lowest-fails}
@@ -85,7 +85,7 @@ idle-test b i = (
     used j = not (eqb (cell (b .caps) i j) 0)
 
 -- no seat is idle
-pub none-idle-test : (b : Book) → (lowest (seats b) (isIdle b) ≡ none) ↔ ((i : ℕ) → i < seats b → Idle b i → ⊥)
+pub none-idle-test : (b : Book) → (lowest (seats b) (isIdle b) ≡ none) ↔ NoneIdle b
 none-idle-test b = (
   λ e i li h. true-not-false _ (idle-test b i .1 h) (lowest-none (seats b) (isIdle b) e i li),
   λ h. lowest-fails (seats b) (isIdle b) (λ i li. tests.not-true _ (λ e. h i li (idle-test b i .0 e))),

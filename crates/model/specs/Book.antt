@@ -113,6 +113,10 @@ Lawful b s = Feasible (instanceOf b) (cell s)
 abbrev pub Idle : Book → ℕ → Type 0
 Idle b i = (j : ℕ) → j < windows b → cell (b .caps) i j ≡ 0
 
+-- a book without an idle seat
+abbrev pub NoneIdle : Book → Type 0
+NoneIdle b = (i : ℕ) → i < seats b → Idle b i → ⊥
+
 -- the same three, as tests that compute: a sheet of the book, a lawful one, an idle seat
 unfoldable pub isSheet : Book → Grid → Bool
 isSheet b s =

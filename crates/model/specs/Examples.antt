@@ -4,8 +4,8 @@
 use mathlib.Core.Path.{_≡_}
 use mathlib.Core.List.{List, [], _∷_}
 use mathlib.Core.Option.{none, some}
-use Prim.Native.Nat.{ℕ, _<_}
-use Rattle.model.specs.Book.{Book, Grid, SheetOf, Lawful, Idle, seats, withFirst, withBalances, withWeights, totals}
+use Prim.Native.Nat.{ℕ}
+use Rattle.model.specs.Book.{Book, Grid, SheetOf, Lawful, NoneIdle, withFirst, withBalances, withWeights, totals}
 use Rattle.model.specs.Marks.{markOf, resultOf}
 
 pub record Example : Type 0 where
@@ -22,7 +22,7 @@ pub record Holds (e : Example) : Type 0 where
   pub marked : resultOf (markOf (e .book) (e .sheet)) .mark ≡ e .mark
   pub counted : resultOf (markOf (e .book) (e .sheet)) .moves ≡ e .moves
   pub summed : totals (e .book) (e .sheet) ≡ e .sums
-  pub none-idle : (i : ℕ) → i < seats (e .book) → Idle (e .book) i → ⊥
+  pub none-idle : NoneIdle (e .book)
 
 abbrev book : List ℕ → List ℕ → Grid → Book
 book classes supplies caps =

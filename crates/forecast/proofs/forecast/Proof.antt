@@ -49,9 +49,9 @@ returns-2 c =
     let number = c .before .before in
     let idle = number .before .before in
     let told = idle .before .before .before .before in
+    let refused = refuses (idle .check-idle .ensures) (number .number .given .1) in
     let away = c .turned-away2 .ensures in
-    forecast-refused _ _ _
-    (on-after (readLines _) (idleLines _) (accepted told) ∙ refuses (idle .check-idle .ensures) (number .number .given .1)) (away .0) (away .1)
+    forecast-refused _ _ _ (on-after (readLines _) (idleLines _) (accepted told) ∙ refused) (away .0) (away .1)
 
 -- ---- nor is a seat idle
 

@@ -31,5 +31,5 @@ returns-2 c = search-end (c .before .loop .inv) (c .loop-test .left)
 
 pub idle-seat-spec : {M : Type 1} → statement M
 idle-seat-spec =
-    tie.close (tie.spec Inv-loop μ-loop loop-holds (λ c. search needs) (λ c. search needs) (λ c κs. search needs) returns (λ c. search needs)
-    (λ c. search needs) loop-again returns-2)
+    tie.close (tie.spec Inv-loop μ-loop loop-holds (λ c. search needs) (λ c. search needs) (λ c κs. search needs) returns
+    (λ c. search needs) (λ c. search needs) loop-again returns-2)
