@@ -5,9 +5,11 @@ use mathlib.Core.List.{List, [], _∷_, _++_}
 use mathlib.Core.Option.{Option, none, some}
 use mathlib.Core.Path.{_≡_, refl, sym, _∙_, ap, ap₂}
 use Prim.Native.Nat.{ℕ, _+_, _≤_, _<_}
+use native.Mathlib.Decide.{decLt}
 use native.Mathlib.Omega.{arith}
 use borrow.Author.Tests.{eq-eqb, lt-ltb, le-ltb}
 use lib.Dec.{eqb}
+use Rattle.model.specs.Lowest.{orElse}
 use Rattle.dayfile.specs.Table.{Line, Refusal, line, refuse, orRefuse, firstOf, line16, bufferLines}
 use Rattle.dayfile.specs.Outcome.{NoneHolds, FirstHolds}
 
@@ -44,6 +46,16 @@ on-after [] ys e = refl
 on-after (l ∷ xs) ys e =
     on-line (l .number) (l .place) (firstOf xs) (firstOf (xs ++ ys)) (firstOf ys) (on-after xs ys) e
 
+-- a group, and else those after it
+pub first-both : (xs ys : List Line) → firstOf (xs ++ ys) ≡ orElse (firstOf xs) (firstOf ys)
+first-both [] ys = refl
+first-both (l ∷ xs) ys = go (l .place) (first-both xs ys)
+  where
+    go : (o : Option ℕ) → firstOf (xs ++ ys) ≡ orElse (firstOf xs) (firstOf ys) →
+        orRefuse (l .number) o (firstOf (xs ++ ys)) ≡ orElse (orRefuse (l .number) o (firstOf xs)) (firstOf ys)
+    go none rest = rest
+    go (some p) rest = refl
+
 -- ---- none holds
 
 line-none : (n : ℕ) (o : Option ℕ) (next : Option Refusal) → orRefuse n o next ≡ none → (o ≡ none) × (next ≡ none)
@@ -74,6 +86,13 @@ room-short room need l = rw (lt-ltb room need l) refl
 pub room-enough : (room need : ℕ) → need ≤ room → firstOf (bufferLines room need) ≡ none
 unfolding bufferLines line16
 room-enough room need l = rw (le-ltb room need l) refl
+
+pub room-none : (room need : ℕ) → firstOf (bufferLines room need) ≡ none → need ≤ room
+room-none room need e = go (decLt room need)
+  where
+    go : Dec (room < need) → need ≤ room
+    go (no d) = omega arith
+    go (yes l) = absurd (let s = room-short room need l in let z : _≡_ {A = ℕ} 0 1 = cc in omega arith)
 
 -- ---- the numbers of lines
 

@@ -4,9 +4,9 @@ ghost use mathlib.Core.Path.{_≡_};
 ghost use mathlib.Core.Bool.{not};
 ghost use mathlib.Core.List.{[], _∷_};
 ghost use Prim.Native.Nat.{_+_, _<_};
-ghost use Rattle.model.specs.Lowest.{when};
+ghost use Rattle.model.specs.Lowest.{when, orElse};
 ghost use Rattle.sheet.specs.Sheets.{gridOf};
-ghost use Rattle.dayfile.specs.Table.{within, rightAfter, line, firstOf};
+ghost use Rattle.dayfile.specs.Table.{within, rightAfter, line, firstOf, bufferLines};
 ghost use Rattle.dayfile.specs.Memory.{found, refused};
 use sheet::Caps;
 use sheet::Sheet;
@@ -125,6 +125,29 @@ pub fn first_of(number: u8, a: Found, b: Found, c: Found) -> Check
         return Check::Refused {
             number: number + 2,
             at: p,
+        };
+    }
+    Check::Sound
+}
+
+// The first of two checks that refuses.
+pub fn first_check(a: Check, b: Check) -> Check
+    ensures { λ r. ⌜ refused r ≡ orElse (refused a) (refused b) ⌝ }
+{
+    if let Check::Refused { number, at } = a {
+        return Check::Refused { number, at };
+    }
+    b
+}
+
+// Line 16, of a buffer of `room` bytes where `need` are needed.
+pub fn check_room(room: usize, need: usize) -> Check
+    ensures { λ r. ⌜ refused r ≡ firstOf (bufferLines room need) ⌝ }
+{
+    if room < need {
+        return Check::Refused {
+            number: 16,
+            at: need,
         };
     }
     Check::Sound

@@ -4,7 +4,6 @@ use mathlib.Core.Bool.{true}
 use mathlib.Core.List.{List, _++_}
 use mathlib.Core.Option.{none, some}
 use Prim.Native.Nat.{ℕ, _*_, _≤_, _<_}
-use native.Mathlib.Decide.{decLt}
 use native.Mathlib.Omega.{arith}
 use borrow.Author.Tests.{eq-eqb, ne-eqb}
 use lib.ListN.{length, drop, getD}
@@ -18,7 +17,7 @@ use Rattle.dayfile.specs.File.{bytesOf, flat}
 use Rattle.dayfile.specs.Layout.{bookOf, seatsIn, windowsIn}
 use Rattle.dayfile.specs.Table.{refuse, firstOf, line21, readLines, rowLines, bufferLines, bodyLength, fulfilLines}
 use Rattle.dayfile.specs.Memory.{cellsIn, bookIn, front, Reads}
-use Rattle.dayfile.proofs.Lines.{stop-in, on-after, none-parts, room-short, room-enough}
+use Rattle.dayfile.proofs.Lines.{stop-in, on-after, none-parts, room-short, room-enough, room-none}
 use Rattle.dayfile.proofs.Accepted.{seats-are, windows-are}
 use Rattle.dayfile.proofs.Answers.{defined-refusal, defined-answer}
 use Rattle.dayfile.proofs.Grids.{sized-flat-length}
@@ -60,12 +59,7 @@ module _ (f row : List ℕ) (room : ℕ) where
 
 -- no line of the two holds, so the buffer is long enough
 pub lent-room : (f row : List ℕ) (room : ℕ) → firstOf (lentLines f row room) ≡ none → bodyLength f ≤ room
-unfolding rowLines
-lent-room f row room e = go (decLt room (bodyLength f)) (none-parts (rowLines f row) (bufferLines room (bodyLength f)) e .1)
-  where
-    go : Dec (room < bodyLength f) → firstOf (bufferLines room (bodyLength f)) ≡ none → bodyLength f ≤ room
-    go (no d) h = omega arith
-    go (yes l) h = absurd (let z : _≡_ {A = ℕ} 0 1 = (let s = room-short room (bodyLength f) l in cc) in omega arith)
+lent-room f row room e = room-none room (bodyLength f) (none-parts (rowLines f row) (bufferLines room (bodyLength f)) e .1)
 
 -- ---- a grid in memory that grants the wants of a book in memory is a sheet that gives them
 

@@ -1,20 +1,21 @@
 -- What the planner's steps show, from what is read and written. Assumes nothing.
-use mathlib.Core.Path.{_≡_, refl, sym, ap, _∙_, subst}
+use mathlib.Core.Path.{_≡_, refl, sym, ap, ap₂, _∙_, subst}
 use mathlib.Core.Bool.{true}
-use mathlib.Core.List.{List}
-use mathlib.Core.Option.{none, some}
-use Prim.Native.Nat.{ℕ, _≤_, _<_}
+use mathlib.Core.List.{List, _++_}
+use mathlib.Core.Option.{Option, none, some}
+use Prim.Native.Nat.{ℕ, _<_}
 use native.Mathlib.Omega.{arith}
 use lib.ListN.{length}
 use Rattle.fairness.specs.Standard.{Standard}
+use Rattle.model.specs.Lowest.{orElse}
 use Rattle.model.specs.Book.{Book, Grid, SheetOf, cell, seats, windows, instanceOf}
 use Rattle.model.proofs.Agree.{agree-standard}
 use Rattle.dayfile.specs.Layout.{bookOf}
-use Rattle.dayfile.specs.Table.{refuse, firstOf, forecastLines, bufferLines, planLines, plannedLength}
+use Rattle.dayfile.specs.Table.{Refusal, refuse, firstOf, readLines, idleLines, forecastLines, bufferLines, planLines, plannedLength}
 use Rattle.dayfile.specs.Memory.{sizedGrid, bookIn, fileWith, front}
 use Rattle.dayfile.specs.declared.Book as Memory
 use Rattle.dayfile.specs.declared.Written as Written
-use Rattle.dayfile.proofs.Lines.{stop-in, on-after, room-short, room-enough}
+use Rattle.dayfile.proofs.Lines.{stop-in, on-after, first-both}
 use Rattle.dayfile.proofs.Answers.{defined-refusal, defined-answer}
 use Rattle.dayfile.proofs.Used.{cell-in}
 use Rattle.dayfile.proofs.Held.{seats-in, windows-in, sheet-shaped}
@@ -47,30 +48,36 @@ module _ (m : Memory.Book) (caps g : Grid) where
         bytes = w;
       }
 
--- ---- the answers
+-- ---- the lines, and the answers
+
+module _ (f : List ℕ) (room : ℕ) where
+  -- a line of the reader's holds
+  pub plan-stop : (q : Refusal) → firstOf (readLines f) ≡ some q → firstOf (planLines f room) ≡ some q
+  unfolding planLines
+  plan-stop q e = stop-in (forecastLines f) _ q (stop-in (readLines f) (idleLines f) q e)
+
+  -- none does, so those behind them decide
+  pub plan-on : firstOf (readLines f) ≡ none →
+      firstOf (planLines f room) ≡ firstOf (idleLines f ++ bufferLines room (plannedLength (bookOf f)))
+  unfolding planLines
+  plan-on e =
+      let buffer = bufferLines room (plannedLength (bookOf f)) in
+      first-both (forecastLines f) buffer
+      ∙ ap (λ (o : Option Refusal). orElse o (firstOf buffer)) (on-after (readLines f) (idleLines f) e)
+      ∙ sym (first-both (idleLines f) buffer)
+
+  -- what the two checks behind the reader's say
+  pub rest-told : (need : ℕ) → need ≡ plannedLength (bookOf f) → {x a b : Option Refusal} → x ≡ orElse a b → a ≡ firstOf (idleLines f) →
+      b ≡ firstOf (bufferLines room need) → x ≡ firstOf (idleLines f ++ bufferLines room (plannedLength (bookOf f)))
+  rest-told need e both idle short =
+      both ∙ ap₂ orElse idle (short ∙ ap (λ (k : ℕ). firstOf (bufferLines room k)) e) ∙ sym (first-both (idleLines f) _)
 
 module _ (f old : List ℕ) where
-  -- a line that is not of the buffer holds
-  pub plan-refused : (n p : ℕ) → firstOf (forecastLines f) ≡ some (refuse n p) → Plans f old old (Written.the-variants.Refused n p)
-  unfolding planLines
-  plan-refused n p e = defined-refusal (refuse n p) (stop-in (forecastLines f) _ (refuse n p) e) refl refl
+  pub plan-refused : (n p : ℕ) → firstOf (planLines f (length old)) ≡ some (refuse n p) →
+      Plans f old old (Written.the-variants.Refused n p)
+  plan-refused n p e = defined-refusal (refuse n p) e refl refl
 
-  -- none does, and the file's book is in memory
-  module _ (free : firstOf (forecastLines f) ≡ none) (m : Memory.Book) (caps : Grid) (same : bookIn m caps ≡ bookOf f)
-      (need : ℕ) (need-is : need ≡ plannedLength (bookIn m caps)) where
-    lines-end : firstOf (planLines f (length old)) ≡ firstOf (bufferLines (length old) need)
-    unfolding planLines
-    lines-end =
-        on-after (forecastLines f) (bufferLines (length old) (plannedLength (bookOf f))) free
-        ∙ ap (λ (k : ℕ). firstOf (bufferLines (length old) k)) (sym (need-is ∙ ap plannedLength same))
-
-    -- the buffer is too short
-    pub plan-short : length old < need → Plans f old old (Written.the-variants.Refused 16 need)
-    plan-short l = defined-refusal (refuse 16 need) (lines-end ∙ room-short (length old) need l) refl refl
-
-    -- the whole file
-    pub plan-whole : need ≤ length old → (new : List ℕ) (n : ℕ) → n ≡ need → Planned (bookIn m caps) old new →
-        Plans f old new (Written.the-variants.Whole n)
-    plan-whole l new n e planned =
-        defined-answer n (lines-end ∙ room-enough (length old) need l) refl
-        (e ∙ need-is ∙ ap plannedLength same, subst (λ (x : Book). Planned x old new) same planned)
+  pub plan-whole : firstOf (planLines f (length old)) ≡ none → (b : Book) → b ≡ bookOf f → (new : List ℕ) (n : ℕ) →
+      n ≡ plannedLength (bookOf f) → Planned b old new → Plans f old new (Written.the-variants.Whole n)
+  plan-whole free b same new n e planned =
+      defined-answer n free refl (e, subst (λ (x : Book). Planned x old new) same planned)
