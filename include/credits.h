@@ -55,6 +55,7 @@ enum {
     CREDITS_REFUSED_NO_SHEET = 13,      /* mark, better: no sheet                               0 */
     CREDITS_REFUSED_ABOVE_CAP = 14,     /* mark, better: cell above its cap                     that cell */
     CREDITS_REFUSED_ABOVE_SUPPLY = 15,  /* mark, better: window's cells above its supply        that supply */
+    CREDITS_REFUSED_IDLE = 22,          /* plan, forecast: idle seat: its caps are all zero     that seat's class */
     CREDITS_REFUSED_WANTED_LENGTH = 21, /* fulfil: wanted totals: not 4 x seats bytes           0 */
     CREDITS_REFUSED_BUFFER = 16,        /* the buffer is too short                              length needed */
     CREDITS_REFUSED_OTHER_BOOK = 17     /* better: the books differ, see credits_better         0 */
@@ -89,6 +90,9 @@ typedef struct {
     uint32_t has_weights; /* 0: the book has no weights of its own; credits_read says 1 where it has some */
     uint16_t weights[8];  /* the weights of classes 1 to 8, 1 to 1,000 and rising; credits_read gives 0 where there are none */
 } credits_book;
+
+/* An idle seat is one whose caps are all zero. credits_plan and credits_forecast take it for a clerical slip and turn the book away; every
+ * other call takes such a book as any other. A seat with a cap of 1 in one window is not idle, whatever that window supplies. */
 
 /* In each result: refusal 0 and offset 0 where the call did its work. At a refusal the other fields are all 0, but for `file` of a
  * credits_better_result, which then says whose refusal it is. */
@@ -153,7 +157,8 @@ credits_mark_result credits_mark(const uint8_t *file, size_t file_len, uint8_t *
 
 /* The same day file with its standard sheet, to the front of `out`: of all settled sheets of the book the one whose cells, read seat by
  * seat and within a seat window by window, are highest in dictionary order. So one file is planned to the same bytes always. A sheet that
- * the file holds is ignored; a first seat, balances and weights are kept. Refusals 1 to 12, then 18 to 20, then 16. */
+ * the file holds is ignored; a first seat, balances and weights are kept. A book with an idle seat is refused. Refusals 1 to 12, then 18 to
+ * 20, then 22, then 16. */
 credits_write_result credits_plan(const uint8_t *file, size_t file_len, uint8_t *out, size_t out_len);
 
 /* A day file and its mark as text, to the front of `out`; there is no 0 byte at the end. For a file that credits_mark refuses the text is
@@ -181,8 +186,8 @@ credits_fulfil_result credits_fulfil(const uint8_t *file, size_t file_len, const
 /* What a plan of a day file will take: the length of the file that credits_plan will write, so that a buffer of this length is long enough
  * and none that is shorter; and for each window the credits that its cells will add up to, which are the lesser of the supply and the caps
  * there added together. There is no buffer. Cells of a sheet that the file holds are neither used nor checked. At a refusal the length and
- * all of `placed` are 0, and so is what stands for windows that the book does not have. Refusals 1 to 12, then 18 to 20: the same that
- * credits_plan gives, but for 16. */
+ * all of `placed` are 0, and so is what stands for windows that the book does not have. A book with an idle seat is refused, as by
+ * credits_plan. Refusals 1 to 12, then 18 to 20, then 22: the same that credits_plan gives, but for 16. */
 credits_forecast_result credits_forecast(const uint8_t *file, size_t file_len);
 
 #ifdef __cplusplus
