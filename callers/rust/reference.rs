@@ -15,6 +15,8 @@ mod exchange;
 mod forecast;
 #[path = "reference/fulfil.rs"]
 mod fulfil;
+#[path = "reference/idle.rs"]
+mod idle;
 #[path = "reference/listing.rs"]
 mod listing;
 #[path = "reference/marker.rs"]
@@ -35,9 +37,10 @@ pub use better::{better, choose, Better, PairRefusal};
 pub use day_file::{read, write, Layout};
 pub use forecast::{forecast, Forecast};
 pub use fulfil::{fulfil, fulfil_by, sheet_or_group, Fulfilled, Wants};
+pub use idle::read_to_plan;
 pub use listing::listing;
 pub use marker::{feasible, mark, Marked};
-pub use planner::{plan, settled_sheet};
+pub use planner::{plan, plan_sheet, settled_sheet};
 
 /// The most seats and windows that a book has.
 pub const SEATS: usize = 32;
@@ -97,6 +100,11 @@ impl Book {
     pub fn place(&self, seat: usize) -> usize {
         let first = self.first.map_or(0, |first| first as usize - 1);
         (seat + self.seats - first) % self.seats
+    }
+
+    /// Whether all of a seat's caps are zero.
+    pub fn is_idle(&self, seat: usize) -> bool {
+        self.caps[seat][..self.windows].iter().all(|&cap| cap == 0)
     }
 
     /// Per seat the balance that it carries over; zeros where the book has none.

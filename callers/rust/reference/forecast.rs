@@ -1,6 +1,6 @@
 //! What a plan will take (paper 02, E8).
 
-use super::{read, Book, Layout, Refusal, WINDOWS};
+use super::{read_to_plan, Book, Layout, Refusal, WINDOWS};
 
 /// The length of the planned file, and for each window the credits that will be placed; 0 beyond the book's windows.
 #[derive(Clone, Copy, Debug, PartialEq, Eq)]
@@ -11,7 +11,7 @@ pub struct Forecast {
 
 /// The forecast of a day file. A sheet that it holds is not used.
 pub fn forecast(file: &[u8]) -> Result<Forecast, Refusal> {
-    let (book, _) = read(file)?;
+    let book = read_to_plan(file)?;
     let mut placed = [0; WINDOWS];
     for window in 0..book.windows {
         placed[window] = will_be_placed(&book, window);

@@ -54,7 +54,6 @@ fn caps_about_a_supply_and_far_above() {
     let many = book(&[1; 17], &[4095; 4], &rows);
     assert_eq!(told(&file_of(&many, None)), (340, vec![4094, 4095, 4095, 4095]));
     let mut largest = first_is(carrying(weighing(Book::empty(32, 24), LOWEST), &[0; SEATS]), 32);
-    assert_eq!(told(&file_of(&largest, None)), (FILE_LENGTH, vec![0; WINDOWS]));
     largest.caps = [[MOST_CREDITS; WINDOWS]; SEATS];
     assert_eq!(told(&file_of(&largest, None)), (FILE_LENGTH, vec![0; WINDOWS]));
     largest.supplies = [MOST_CREDITS; WINDOWS];
@@ -85,6 +84,9 @@ fn every_sheet_of_small_books() {
     let (mut rng, mut books, mut counts) = (Rng::new(6), 0, [0; 2]);
     while books < 2000 {
         let book = small_book(&mut rng);
+        if (0..book.seats).any(|seat| book.is_idle(seat)) {
+            continue;
+        }
         let Some(sheets) = feasible_sheets(&book) else { continue };
         let (_, placed) = told(&file_of(&book, None));
         for sheet in &sheets {
@@ -99,13 +101,18 @@ fn every_sheet_of_small_books() {
     assert!(counts.iter().all(|&count| count > 10_000));
 }
 
-/// A book of any size with caps and supplies that are scarce or plenty.
+/// A book of any size with caps and supplies that are scarce or plenty. A seat that would be idle has one cap of 1.
 fn any_book(rng: &mut Rng) -> Book {
     let mut book = Book::empty(rng.between(1, SEATS), rng.between(1, WINDOWS));
     let (caps, supplies) = (1 << rng.below(13), 1 << rng.below(13));
     for window in 0..book.windows {
         book.supplies[window] = rng.below(supplies) as u16;
         (0..book.seats).for_each(|seat| book.caps[seat][window] = rng.below(caps) as u16);
+    }
+    for seat in 0..book.seats {
+        if book.is_idle(seat) {
+            book.caps[seat][rng.below(book.windows)] = 1;
+        }
     }
     book.first = rng.once_in(2).then_some(1);
     book.balances = rng.once_in(2).then_some([0; SEATS]);

@@ -105,11 +105,11 @@ fn any_number_may_be_wanted() {
 }
 
 #[test]
-fn idle_seats_and_empty_windows() {
-    let idle = book(&[1, 1], &[0, 5], &[&[9, 0], &[0, 4]]);
-    assert_eq!(reply(&idle, &[0, 4]), Ok(grid(&[&[0, 0], &[0, 4]])));
+fn seats_that_can_get_nothing_and_empty_windows() {
+    let empty = book(&[1, 1], &[0, 5], &[&[9, 0], &[0, 4]]);
+    assert_eq!(reply(&empty, &[0, 4]), Ok(grid(&[&[0, 0], &[0, 4]])));
     for (wants, seat) in [([1, 4], 0), ([0, 5], 1)] {
-        assert_eq!(reply(&idle, &wants).map_err(|group| group >> seat & 1), Err(1), "{wants:?}");
+        assert_eq!(reply(&empty, &wants).map_err(|group| group >> seat & 1), Err(1), "{wants:?}");
     }
 }
 

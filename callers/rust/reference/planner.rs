@@ -4,15 +4,15 @@ use std::cmp::Ordering;
 
 use super::exchange::{bits, Position, Reach};
 use super::standard::standard;
-use super::{read, write, Book, Refusal, Sheet, SEATS, WINDOWS};
+use super::{read_to_plan, write, Book, Refusal, Sheet, SEATS, WINDOWS};
 
 /// Plans the book of a day file and writes the whole file with the planned sheet to the front of `out`.
 pub fn plan(file: &[u8], out: &mut [u8]) -> Result<usize, Refusal> {
-    let (book, _) = read(file)?;
+    let book = read_to_plan(file)?;
     write(&book, Some(&plan_sheet(&book)), out)
 }
 
-/// The standard sheet of the book.
+/// The standard sheet of the book, which there is for one with idle seats too: these have no credits.
 pub fn plan_sheet(book: &Book) -> Sheet {
     standard(book, settled_sheet(book))
 }

@@ -12,6 +12,8 @@ mod first_tests;
 mod forecast_tests;
 #[path = "fulfil_tests.rs"]
 mod fulfil_tests;
+#[path = "idle_tests.rs"]
+mod idle_tests;
 #[path = "standard_tests.rs"]
 mod standard_tests;
 #[path = "weight_tests.rs"]
