@@ -2,7 +2,7 @@
 #![allow(dead_code)]
 
 use super::reference::{
-    plan, read, write, Book, Sheet, FILE_LENGTH, MOST_BALANCE, MOST_CREDITS, MOST_WEIGHT, SEATS, WEIGHTS, WINDOWS,
+    plan_sheet, write, Book, Sheet, FILE_LENGTH, MOST_BALANCE, MOST_CREDITS, MOST_WEIGHT, SEATS, WEIGHTS, WINDOWS,
 };
 use super::rng::Rng;
 
@@ -19,7 +19,7 @@ pub const KINDS: [(&str, Draw); 6] = [
     ("low caps", low_caps),
 ];
 
-/// Classes and supplies at random, and caps by seat and window; a seat without any gets one cap.
+/// Classes and supplies at random, and caps by seat and window; no seat is idle.
 fn draw(rng: &mut Rng, seats: usize, windows: usize, cap: impl Fn(&mut Rng, usize, usize) -> usize) -> Book {
     let mut book = Book::empty(seats, windows);
     for window in 0..windows {
@@ -30,11 +30,16 @@ fn draw(rng: &mut Rng, seats: usize, windows: usize, cap: impl Fn(&mut Rng, usiz
         for window in 0..windows {
             book.caps[seat][window] = cap(rng, seat, window) as u16;
         }
-        if book.caps[seat] == [0; WINDOWS] {
-            book.caps[seat][rng.below(windows)] = rng.between(1, 4095) as u16;
-        }
+        keep_busy(rng, &mut book, seat, 4095);
     }
     book
+}
+
+/// A seat without any cap gets one, of up to `most` credits: a book with an idle seat is not planned.
+pub fn keep_busy(rng: &mut Rng, book: &mut Book, seat: usize, most: usize) {
+    if book.is_idle(seat) {
+        book.caps[seat][rng.below(book.windows)] = rng.between(1, most) as u16;
+    }
 }
 
 /// Any cap in every cell.
@@ -175,11 +180,9 @@ pub fn file_of(book: &Book, sheet: Option<&Sheet>) -> Vec<u8> {
     out[..length].to_vec()
 }
 
-/// The standard sheet of a book.
+/// The standard sheet of a book, be it one that is not planned for its idle seats.
 pub fn planned(book: &Book) -> Sheet {
-    let mut out = [0; FILE_LENGTH];
-    let length = plan(&file_of(book, None), &mut out).expect("a book within its bounds");
-    read(&out[..length]).expect("a planned file").1.expect("a planned sheet")
+    plan_sheet(book)
 }
 
 /// Every window handed out by itself, to seats from that one on, up to their caps.

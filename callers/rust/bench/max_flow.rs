@@ -1,14 +1,14 @@
 //! A planner by maximum flow and bisection, as one would write it over a library's `max_flow`: a network from a source over
 //! seats and windows to a sink, and per level as many flows as it takes to find the highest level that all open seats can have.
 
-use super::reference::{read, write, Book, Refusal, Sheet, MOST_WEIGHT, SEATS, WINDOWS};
+use super::reference::{read_to_plan, write, Book, Refusal, Sheet, MOST_WEIGHT, SEATS, WINDOWS};
 
 /// Two levels that differ do so by one of this many units or more.
 const FINEST: u64 = MOST_WEIGHT as u64 * MOST_WEIGHT as u64;
 
 /// Plans the book of a day file and writes the whole file with the planned sheet to the front of `out`.
 pub fn plan(file: &[u8], out: &mut [u8]) -> Result<usize, Refusal> {
-    let (book, _) = read(file)?;
+    let book = read_to_plan(file)?;
     let sheet = Levels::new(&book).plan();
     write(&book, Some(&sheet), out)
 }

@@ -1,22 +1,23 @@
 //! The library's planner in plain Rust, for the sake of its speed: the same steps in the same order, on a grid that is changed in
 //! place and with nothing proved.
 //!
-//! Every window is handed out seat by seat. Then the lowest seat takes from the highest one that it reaches along a shortest
-//! exchange path, many credits at once: first only where 64 or more can go, then down to single credits. Then the marker's search
-//! looks for an exchange that is left, and plays it, until there is none. At last the settled sheet is made standard.
+//! The file is read and tested, for idle seats too. Every window is handed out seat by seat. Then the lowest seat takes from the
+//! highest one that it reaches along a shortest exchange path, many credits at once: first only where 64 or more can go, then down to
+//! single credits. Then the marker's search looks for an exchange that is left, and plays it, until there is none. At last the settled
+//! sheet is made standard.
 
-use super::reference::{read, write, Book, Refusal, Sheet, SEATS, WINDOWS};
+use super::reference::{read_to_plan, write, Book, Refusal, Sheet, SEATS, WINDOWS};
 use super::same_standard::{standard, totals, Work};
 
 /// Plans the book of a day file and writes the whole file with the standard sheet to the front of `out`.
 pub fn plan(file: &[u8], out: &mut [u8]) -> Result<usize, Refusal> {
-    let (book, _) = read(file)?;
+    let book = read_to_plan(file)?;
     write(&book, Some(&standard(&book, &Desk::settled(&book).grid).0), out)
 }
 
 /// The same up to the settled sheet, which is written as it is.
 pub fn settle_alone(file: &[u8], out: &mut [u8]) -> Result<usize, Refusal> {
-    let (book, _) = read(file)?;
+    let book = read_to_plan(file)?;
     write(&book, Some(&Desk::settled(&book).grid), out)
 }
 

@@ -7,7 +7,7 @@
 
 use std::time::{Duration, Instant};
 
-use super::books::{file_of, BALANCES, TABLES};
+use super::books::{file_of, keep_busy, BALANCES, TABLES};
 use super::credits;
 use super::reference::{Book, Wants, FILE_LENGTH, MOST_BALANCE, MOST_CREDITS, MOST_WEIGHT, SEATS, WINDOWS};
 use super::rng::Rng;
@@ -17,7 +17,7 @@ use super::same_standard::Work;
 use super::timing::median;
 use super::wanted::row_of;
 
-/// A book, and totals that are wanted. No seat wants more than it can get alone: that would be told at once.
+/// A book, and totals that are wanted. No seat is idle, and none wants more than it can get alone: both would be told at once.
 #[derive(Clone)]
 struct Case {
     book: Book,
@@ -110,7 +110,7 @@ pub fn search(seconds: u64) {
 }
 
 /// A book with caps and supplies of any size: how high, how many and how scarce is drawn for the whole book. Half of the books name a first
-/// seat, half have balances, and half have weights.
+/// seat, half have balances, and half have weights. No seat is idle.
 fn any_book(rng: &mut Rng) -> Book {
     let mut book = Book::empty(32, 24);
     let (highest, one_in, sixteenths) = (1 << rng.below(13), rng.between(1, 8), rng.between(1, 16));
@@ -120,6 +120,7 @@ fn any_book(rng: &mut Rng) -> Book {
         for window in 0..24 {
             book.caps[seat][window] = if rng.once_in(one_in) { rng.between(1, highest).min(4095) as u16 } else { 0 };
         }
+        keep_busy(rng, &mut book, seat, highest.min(4095));
     }
     for window in 0..24 {
         let caps: usize = book.caps.iter().map(|row| row[window] as usize).sum();
@@ -169,6 +170,7 @@ fn light_book(rng: &mut Rng) -> Book {
             true => rng.between(1, most) as u16,
             false => rng.once_in(3) as u16 * rng.between(64, 4095) as u16,
         });
+        keep_busy(rng, &mut book, seat, most);
     }
     for window in 0..book.windows {
         let caps: usize = book.caps.iter().map(|row| row[window] as usize).sum();
@@ -220,7 +222,7 @@ impl Climb {
         self.name == "wanted totals"
     }
 
-    /// Small changes, kept where the case gets no easier.
+    /// Small changes, kept where the case gets no easier; one that leaves a seat idle is not tried.
     fn uphill(&self, rng: &mut Rng, met: &mut Met, mut case: Case, end: Instant) -> (Case, usize) {
         let (mut best, mut changes) = (met.cost(self, &case), 0);
         while Instant::now() < end {
@@ -228,6 +230,9 @@ impl Climb {
             for _ in 0..=rng.below(4) {
                 change(rng, &mut other.book);
                 change_want(rng, &mut other);
+            }
+            if (0..other.book.seats).any(|seat| other.book.is_idle(seat)) {
+                continue;
             }
             let harder = met.cost(self, &other);
             changes += (harder > best) as usize;
