@@ -6,8 +6,8 @@
 //! Output buffers of any length are compared whole, with bytes around them, and so are the planned files in them. What the papers leave
 //! free is tested by their rules: a chain has the right ends and the right number of moves, all of them possible, and ends in a list that
 //! is higher (mark 2) or equal (mark 3); a sheet for wanted totals is lawful and has just these totals, and a group wants more than it can
-//! get. A file that is forecast is then planned, and its plan counted. The first difference ends the run with status 1, and what it was met
-//! with is kept under target/compare.
+//! get. A file that is forecast is then planned, and its plan counted. One book in six has idle seats: planning and the forecast refuse it,
+//! and all other calls take it. The first difference ends the run with status 1, and what it was met with is kept under target/compare.
 
 use std::path::PathBuf;
 use std::process::ExitCode;
@@ -27,6 +27,8 @@ mod chain;
 mod files;
 #[path = "compare/forecasts.rs"]
 mod forecasts;
+#[path = "compare/idle.rs"]
+mod idle;
 #[path = "compare/memory.rs"]
 mod memory;
 #[path = "compare/pairs.rs"]
@@ -42,10 +44,11 @@ const FILES: usize = 200_000;
 const ENOUGH: usize = 20_000;
 
 /// What was met so far: refusals and marks by number, the ways to meet line 20, what first seats, balances, weights and the step to the
-/// standard sheet did to plans, what was forecast, what came of pairs and of wanted totals, and how long refused rows of these were.
+/// standard sheet did to plans, what was forecast, what came of pairs and of wanted totals, how long refused rows of these were, and what
+/// came of idle seats.
 #[derive(Default)]
 pub struct Seen {
-    refusals: [usize; 22],
+    refusals: [usize; 23],
     line_20: [usize; calls::LINE_20.len()],
     marks: [usize; 5],
     longest_chain: u32,
@@ -57,6 +60,7 @@ pub struct Seen {
     pairs: [usize; pairs::OUTCOMES.len()],
     replies: [usize; wanted::REPLIES.len()],
     lengths: [usize; wanted::LENGTHS.len()],
+    idle: idle::Counts,
 }
 
 fn main() -> ExitCode {
@@ -88,7 +92,7 @@ impl Seen {
         let counts = self.refusals[1..].iter().chain(&self.line_20).chain(&self.marks[1..]);
         let counts = counts.chain(&self.first_seats).chain(&self.balances).chain(&self.weights);
         let counts = counts.chain(&self.standards).chain(&self.forecasts);
-        let counts = counts.chain(&self.pairs).chain(&self.replies).chain(&self.lengths);
+        let counts = counts.chain(&self.pairs).chain(&self.replies).chain(&self.lengths).chain(self.idle.all());
         counts.copied().min() == Some(0)
     }
 }
@@ -98,7 +102,7 @@ fn report(seen: &Seen) {
         let counted = names.iter().zip(counts).map(|(name, count)| format!("{name} {count}"));
         counted.collect::<Vec<_>>().join(", ")
     };
-    println!("refusals by number, 1 to 21: {:?}", &seen.refusals[1..]);
+    println!("refusals by number, 1 to 22: {:?}", &seen.refusals[1..]);
     println!("files refused by 20: {}", by_name(&calls::LINE_20, &seen.line_20));
     println!("marks by number: {:?}, the longest chain with {} moves", &seen.marks[1..], seen.longest_chain);
     println!("planned: {}", by_name(&calls::FIRST_SEATS, &seen.first_seats));
@@ -109,6 +113,11 @@ fn report(seen: &Seen) {
     println!("pairs: {}", by_name(&pairs::OUTCOMES, &seen.pairs));
     println!("wanted totals: {}", by_name(&wanted::REPLIES, &seen.replies));
     println!("rows refused: {}", by_name(&wanted::LENGTHS, &seen.lengths));
+    println!("plans refused by 22: {}", by_name(&idle::REFUSED, &seen.idle.refused));
+    println!("of them with 3 to 7 entries: {:?}", seen.idle.entries);
+    println!("marks by number with an idle seat: {:?}", &seen.idle.marks[1..]);
+    println!("taken with an idle seat: {}", by_name(&idle::TAKEN, &seen.idle.taken));
+    println!("planned: {}", by_name(&idle::NEARLY, &seen.idle.nearly));
 }
 
 /// One file through the calls that take a file, one book through the writer, one pair through the call that takes two, and one file with

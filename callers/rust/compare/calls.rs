@@ -5,9 +5,8 @@ use super::buffer::Buffer;
 use super::chain::{self, moves, totals, Bytes};
 use super::credits::raw;
 use super::forecasts::forecast;
-use super::reference::{
-    self, settled_sheet, Book, Refusal, Sheet, FILE_LENGTH, MOST_WEIGHT, MOVES_LENGTH, SEATS, WINDOWS,
-};
+use super::idle;
+use super::reference::{self, settled_sheet, Book, Layout, Refusal, Sheet, MOST_WEIGHT, MOVES_LENGTH, SEATS, WINDOWS};
 use super::rng::Rng;
 use super::Seen;
 
@@ -93,6 +92,7 @@ fn read(seen: &mut Seen, file: &[u8]) -> Result<(), String> {
     if plain.refusal == 20 {
         seen.line_20[how_20_is_met(file, plain.offset)] += 1;
     }
+    idle::count_read(seen, file);
     same("read", raw::read(file), plain)
 }
 
@@ -121,6 +121,7 @@ fn mark(rng: &mut Rng, seen: &mut Seen, file: &[u8]) -> Result<(), String> {
     seen.refusals[refusal.number as usize] += 1;
     seen.marks[mark as usize] += 1;
     seen.longest_chain = seen.longest_chain.max(number);
+    idle::count_mark(seen, file, mark);
     let Refusal { number: refusal, offset } = refusal;
     same("mark", library, raw::MarkResult { refusal, offset, mark, window, seat, moves: number })?;
     let length = 3 * number as usize;
@@ -145,12 +146,15 @@ pub fn written(plain: Result<usize, Refusal>) -> raw::WriteResult {
 }
 
 fn plan(rng: &mut Rng, seen: &mut Seen, file: &[u8]) -> Result<(), String> {
-    let need = reference::plan(file, &mut [0; FILE_LENGTH]).unwrap_or(100);
+    let need = reference::read(file).map_or(100, |(book, _)| Layout::of(&book, true).length);
     let mut buffer = Buffer::of_about(rng, need);
     let mut twin = buffer.twin();
     let library = raw::plan(file, buffer.lend());
     let plain = written(reference::plan(file, &mut twin));
     seen.refusals[plain.refusal as usize] += 1;
+    if plain.refusal == 22 {
+        idle::count_refused(seen, file, plain.offset, twin.len() < need);
+    }
     same("plan", library, plain)?;
     let planned = buffer.front(library.length)?;
     if let Some(at) = (0..library.length).find(|&at| planned[at] != twin[at]) {
@@ -173,6 +177,7 @@ fn check_plan(seen: &mut Seen, planned: &[u8]) -> Result<(), String> {
     seen.balances[what_balances_do(&book, &sheet)] += 1;
     seen.weights[what_weights_do(&book, &sheet)] += 1;
     seen.standards[(settled_sheet(&book) != sheet) as usize] += 1;
+    idle::count_planned(seen, &book);
     Ok(())
 }
 

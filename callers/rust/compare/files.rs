@@ -1,9 +1,10 @@
 //! Day files: accepted ones, damaged ones and noise.
 
 use super::books::{
-    close_balances, file_of, greatest, planned, same_totals, spoilt, windows_alone, with_first, with_weights, BALANCES,
-    KINDS, TABLES,
+    close_balances, file_of, greatest, keep_busy, planned, same_totals, spoilt, windows_alone, with_first,
+    with_weights, BALANCES, KINDS, TABLES,
 };
+use super::idle;
 use super::reference::{Book, Sheet, SEATS, WINDOWS};
 use super::rng::Rng;
 
@@ -38,11 +39,14 @@ pub fn size(rng: &mut Rng) -> (usize, usize) {
     }
 }
 
-/// Any kind of book, half of them with a first seat, half with balances, and half with weights; and some with the greatest numbers.
+/// Any kind of book, some with the greatest numbers, and one in six with idle seats.
 pub fn book(rng: &mut Rng) -> Book {
-    if rng.once_in(24) {
-        return greatest(rng);
-    }
+    let book = if rng.once_in(24) { greatest(rng) } else { busy_book(rng) };
+    idle::at_times(rng, book)
+}
+
+/// A book without idle seats, half of them with a first seat, half with balances, and half with weights.
+fn busy_book(rng: &mut Rng) -> Book {
     let (seats, windows) = size(rng);
     let mut book = KINDS[rng.below(KINDS.len())].1(rng, seats, windows);
     if rng.once_in(2) {
@@ -51,6 +55,7 @@ pub fn book(rng: &mut Rng) -> Book {
         book.caps.iter_mut().flatten().for_each(|cap| *cap = (*cap).min(rng.between(0, most) as u16));
         book.supplies.iter_mut().for_each(|supply| *supply %= (most * seats) as u16 + 1);
         book.classes.iter_mut().for_each(|class| *class = (*class).min(last_class as u16));
+        (0..seats).for_each(|seat| keep_busy(rng, &mut book, seat, most));
     }
     let book = any_first(rng, book);
     let book = any_balances(rng, book);
@@ -87,7 +92,7 @@ pub fn any_weights(rng: &mut Rng, book: Book) -> Book {
 /// A sheet as one may hand it in.
 pub fn sheet(rng: &mut Rng, book: &Book) -> Sheet {
     let first = rng.below(book.seats);
-    match rng.below(15) {
+    match rng.below(16) {
         0 => planned(book),
         1 => windows_alone(book, first),
         2 => spoilt(rng, book, &windows_alone(book, first), 100, 100),
@@ -97,14 +102,14 @@ pub fn sheet(rng: &mut Rng, book: &Book) -> Sheet {
         }
         8 => spoilt(rng, book, &planned(book), 3, 1),
         // Settled on a day on which another seat comes first.
-        9 => planned(&any_first(rng, book.clone())),
-        10 => with_other_cells(rng, book, &planned(book)),
+        9 | 10 => planned(&any_first(rng, book.clone())),
+        11 => with_other_cells(rng, book, &planned(book)),
         // Settled as well, and mostly not the standard sheet.
-        11 => same_totals(rng, book, &planned(book)),
+        12 => same_totals(rng, book, &planned(book)),
         // Settled with other balances, or with none.
-        12 => planned(&any_balances(rng, book.clone())),
+        13 => planned(&any_balances(rng, book.clone())),
         // Settled with other weights, or with those of paper 01.
-        13 => planned(&any_weights(rng, book.clone())),
+        14 => planned(&any_weights(rng, book.clone())),
         _ => with_other_cells(rng, book, &NO_CREDITS),
     }
 }

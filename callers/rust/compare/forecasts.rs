@@ -9,8 +9,9 @@ use super::Seen;
 
 /// What may come of a forecast, by place in the count: first the files, then the windows of the books that were taken. The last ones count
 /// windows again whose caps are not below the supply, but would be if they were added up in two bytes.
-pub const FORECASTS: [&str; 9] = [
+pub const FORECASTS: [&str; 10] = [
     "files refused",
+    "refused for an idle seat",
     "files without a sheet",
     "with a sheet that is not lawful",
     "with one that places less than the plan",
@@ -21,12 +22,13 @@ pub const FORECASTS: [&str; 9] = [
     "below it in two bytes only",
 ];
 const REFUSED: usize = 0;
-const NO_SHEET: usize = 1;
-const NOT_LAWFUL: usize = 2;
-const PLACES_LESS: usize = 3;
-const PLACES_AS_MUCH: usize = 4;
-const CAPS_AS_HIGH: usize = 6;
-const IN_TWO_BYTES: usize = 8;
+const IDLE: usize = 1;
+const NO_SHEET: usize = 2;
+const NOT_LAWFUL: usize = 3;
+const PLACES_LESS: usize = 4;
+const PLACES_AS_MUCH: usize = 5;
+const CAPS_AS_HIGH: usize = 7;
+const IN_TWO_BYTES: usize = 9;
 
 /// The library's forecast against that of plain Rust, and against what its own planner then does with the file.
 pub fn forecast(rng: &mut Rng, seen: &mut Seen, file: &[u8]) -> Result<(), String> {
@@ -38,7 +40,7 @@ pub fn forecast(rng: &mut Rng, seen: &mut Seen, file: &[u8]) -> Result<(), Strin
     };
     same("forecast", told, right)?;
     if told.refusal != 0 {
-        seen.forecasts[REFUSED] += 1;
+        seen.forecasts[if told.refusal == 22 { IDLE } else { REFUSED }] += 1;
         return then_refused(file, &told);
     }
     count(seen, file, &told);

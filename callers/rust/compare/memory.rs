@@ -4,6 +4,7 @@ use super::buffer::Buffer;
 use super::calls::{raw_book, same, written};
 use super::credits::raw;
 use super::files;
+use super::idle;
 use super::reference::{self, Book, FILE_LENGTH, MOST_BALANCE, SEATS, WINDOWS};
 use super::rng::Rng;
 use super::Seen;
@@ -70,6 +71,7 @@ pub fn write(rng: &mut Rng, seen: &mut Seen, book: &raw::Book) -> Result<(), Str
     same("write", library, plain)?;
     same("write: the file", buffer.front(library.length)?, &twin[..library.length])?;
     if library.refusal == 0 {
+        idle::count_written(seen, &twin[..library.length]);
         written_again(&twin[..library.length])
     } else {
         Ok(())

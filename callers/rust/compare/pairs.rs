@@ -5,6 +5,7 @@ use super::calls::same;
 use super::chain::{list, moves, play};
 use super::credits::raw;
 use super::files::{self, NO_CREDITS};
+use super::idle;
 use super::reference::{
     self, feasible, Book, PairRefusal, Sheet, MOST_BALANCE, MOST_CREDITS, MOST_WEIGHT, MOVES_LENGTH, SEATS, WEIGHTS,
     WINDOWS,
@@ -284,7 +285,7 @@ pub fn better(seen: &mut Seen, pair: &Pair) -> Result<(), String> {
     }
     same("better: the files", pair, &before)?;
     seen.refusals[refusal as usize] += 1;
-    seen.pairs[if refusal == 0 { check_choice(pair, &library)? } else { file as usize }] += 1;
+    seen.pairs[if refusal == 0 { check_choice(seen, pair, &library)? } else { file as usize }] += 1;
     check_optional(seen, pair, &library)
 }
 
@@ -329,7 +330,7 @@ fn count_two_books(seen: &mut Seen, book: &Book, other: &Book) {
 }
 
 /// The body has the cells of that file's sheet, and the order of the lists gives that file. Gives the order's place.
-fn check_choice(pair: &Pair, chosen: &raw::BetterResult) -> Result<usize, String> {
+fn check_choice(seen: &mut Seen, pair: &Pair, chosen: &raw::BetterResult) -> Result<usize, String> {
     let [Ok((book, Some(sheet))), Ok((_, Some(other)))] = [0, 1].map(|place| reference::read(&pair[place])) else {
         return Err("better: not two files with sheets".to_string());
     };
@@ -339,5 +340,6 @@ fn check_choice(pair: &Pair, chosen: &raw::BetterResult) -> Result<usize, String
     same("better: the body", file.get(chosen.start..chosen.start + chosen.length), Some(&body))?;
     let order = list(&book, &sheet).cmp(&list(&book, &other));
     same("better: the file by its list", chosen.file, if order.is_lt() { 2 } else { 1 })?;
+    idle::count_choice(seen, &book, chosen.file);
     Ok((4 + order as i8) as usize)
 }

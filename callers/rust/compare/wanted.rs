@@ -6,6 +6,7 @@ use super::calls::same;
 use super::chain::totals;
 use super::credits::raw;
 use super::files;
+use super::idle;
 use super::pairs::lawful;
 use super::reference::{self, feasible, Book, Fulfilled, Refusal, Sheet, SEATS, WINDOWS};
 use super::rng::Rng;
@@ -251,6 +252,7 @@ fn check_sheet(seen: &mut Seen, request: &Request, body: &[u8]) -> Result<(), St
     seen.replies[SHEET] += 1;
     seen.replies[ALL_THERE_IS] += (wants_of(&wants, everyone) == can_get(&book, everyone)) as usize;
     seen.replies[NOT_IN_TURN] += !enough_in_turn(&book, &wants) as usize;
+    idle::count_sheet(seen, &book);
     Ok(())
 }
 
@@ -284,6 +286,7 @@ fn check_group(seen: &mut Seen, request: &Request, group: u32) -> Result<(), Str
     seen.replies[place] += 1;
     seen.replies[ONE_TOO_MANY] += (wanted == most + 1) as usize;
     seen.replies[NONE_ALONE] += (0..book.seats).all(alone) as usize;
+    idle::count_group(seen, &book, group);
     Ok(())
 }
 
