@@ -80,6 +80,8 @@ pub enum Reason {
     Weights = 20,
     /// Checked after `Weights` and before `ShortBuffer`.
     WantedLength = 21,
+    /// A seat whose caps are all zero. Checked by [`plan`] and [`forecast`] alone, after `Weights` and before `ShortBuffer`.
+    IdleSeat = 22,
 }
 
 /// A reason and the offset that belongs to it. No byte of any buffer has changed.
@@ -152,7 +154,7 @@ pub struct Forecast {
 }
 
 impl Reason {
-    const ALL: [Reason; 21] = [
+    const ALL: [Reason; 22] = [
         Reason::UnderTwoBytes,
         Reason::NumberOfEntries,
         Reason::EndsWithinContents,
@@ -174,6 +176,7 @@ impl Reason {
         Reason::Balances,
         Reason::Weights,
         Reason::WantedLength,
+        Reason::IdleSeat,
     ];
 
     /// The number in the table.
@@ -264,7 +267,7 @@ pub fn mark(file: &[u8]) -> Result<Mark, Refusal> {
 }
 
 /// Plans the book of a day file and writes the file with the standard sheet to the front of `out`; gives its length.
-/// Of all settled sheets this is the highest, read seat by seat and window by window.
+/// Of all settled sheets this is the highest, read seat by seat and window by window. A book with an idle seat is refused.
 pub fn plan(file: &[u8], out: &mut [u8]) -> Result<usize, Refusal> {
     length(raw::plan(file, out))
 }
@@ -297,7 +300,8 @@ pub fn fulfil(file: &[u8], wanted: &[u32]) -> Result<Fulfilled, Refusal> {
     Ok(Fulfilled::Sheet(grid_of(&body[..result.length], wanted.len())))
 }
 
-/// Tells from a day file what a plan of it will take. Cells of a sheet that the file holds are neither used nor checked.
+/// Tells from a day file what a plan of it will take. Cells of a sheet that the file holds are neither used nor checked. What [`plan`]
+/// refuses is refused here too, but for a short buffer.
 pub fn forecast(file: &[u8]) -> Result<Forecast, Refusal> {
     let result = raw::forecast(file);
     unless_refused(result.refusal, result.offset)?;

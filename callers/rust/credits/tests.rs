@@ -1,5 +1,5 @@
 //! The wrapper against the library: paper 01's examples, the standard sheet, first seats, balances, weights, pairs, wanted totals,
-//! forecasts, refusals, short and empty buffers, calls side by side.
+//! forecasts, idle seats, refusals, short and empty buffers, calls side by side.
 
 use super::*;
 
@@ -574,6 +574,95 @@ fn forecasts_refused() {
         let refusal = reason.number();
         assert_eq!(raw::forecast(file), raw::ForecastResult { refusal, offset, length: 0, placed: [0; WINDOWS] });
     }
+}
+
+/// K8 with an idle seat between its second and its third.
+fn k8_with_idle(sheet: Option<&[&[u16]]>) -> Book {
+    book(&[1, 3], &[&[1, 0], &[1, 2], &[0, 0], &[0, 3]], sheet)
+}
+const IDLE_SPOILT: Option<&[&[u16]]> = Some(&[&[0, 0], &[1, 0], &[0, 0], &[0, 3]]);
+const IDLE_FAIR: Option<&[&[u16]]> = Some(&[&[1, 0], &[0, 2], &[0, 0], &[0, 1]]);
+
+/// Plan and forecast refuse the file at that class, with a buffer of any length, which keeps its bytes.
+fn assert_idle(file: &[u8], offset: usize) {
+    let mut out = [0xee; FILE_LENGTH];
+    for length in [0, 1, file.len() - 1, file.len(), FILE_LENGTH] {
+        assert_eq!(plan(file, &mut out[..length]), refused(Reason::IdleSeat, offset));
+    }
+    assert!(out.iter().all(|&byte| byte == 0xee));
+    assert_eq!(forecast(file), refused(Reason::IdleSeat, offset));
+    assert_eq!(raw::forecast(file), raw::ForecastResult { refusal: 22, offset, length: 0, placed: [0; WINDOWS] });
+    assert_eq!(raw::plan(file, &mut out), raw::WriteResult { refusal: 22, offset, length: 0 });
+}
+
+#[test]
+fn idle_seats_are_not_planned() {
+    // The lowest counts.
+    for (idle, offset) in [(&[0][..], 20), (&[1], 22), (&[2], 24), (&[1, 2], 22), (&[0, 2], 20), (&[0, 1, 2], 20)] {
+        let mut three = k8(None);
+        idle.iter().for_each(|&seat| three.caps[seat] = [0; WINDOWS]);
+        assert_idle(&file_of(&three), offset);
+    }
+    // Its class lies behind 3 to 7 entries.
+    let with_first = |sheet| Book { first: Some(4), ..k8_with_idle(sheet) };
+    let with_balances = Book { balances: Some(row(&[0, 0, 7, 0])), ..with_first(IDLE_FAIR) };
+    let with_weights = Book { weights: Some(HIGHEST), ..with_balances.clone() };
+    let books = [k8_with_idle(None), k8_with_idle(IDLE_FAIR), with_first(IDLE_FAIR), with_balances, with_weights];
+    for (book, entries) in books.iter().zip(3..=7) {
+        assert_idle(&file_of(book), 2 + 6 * entries + 4);
+    }
+    // The last of the most seats; and where there is one, that one.
+    let mut largest = book(&[4095; WINDOWS], &[&[4095; WINDOWS][..]; SEATS], None);
+    largest.caps[31] = [0; WINDOWS];
+    assert_idle(&file_of(&largest), 20 + 62);
+    assert_idle(&file_of(&book(&[9], &[&[0]], None)), 20);
+    assert_eq!(plan(&file_of(&k8_with_idle(None)), &mut []).unwrap_err().to_string(), "refused 22 at 24");
+}
+
+#[test]
+fn one_cap_of_1_is_enough() {
+    for window in 0..WINDOWS {
+        for supply in [0, 1] {
+            let mut two = book(&[supply; WINDOWS], &[&[1; WINDOWS], &[0; WINDOWS]], None);
+            assert_idle(&file_of(&two), 22);
+            two.caps[1][window] = 1;
+            let file = file_of(&two);
+            assert_eq!(planned(&file).len(), forecast(&file).unwrap().length);
+        }
+    }
+}
+
+#[test]
+fn idle_seats_come_after_the_weights() {
+    // Five entries, four classes, two supplies, eight caps, eight cells that are above them, eight weights.
+    let file = file_of(&Book { weights: Some(LOWEST), ..k8_with_idle(Some(&[&[9, 9][..]; 4])) });
+    for (at, value, reason) in
+        [(38, 9, Reason::Class), (42, 4096, Reason::Supply), (58, 4096, Reason::Cap), (90, 7, Reason::Weights)]
+    {
+        let mut spoilt = file.clone();
+        spoilt[at..at + 2].copy_from_slice(&u16::to_le_bytes(value));
+        assert_eq!(plan(&spoilt, &mut []), refused(reason, at));
+        assert_eq!(forecast(&spoilt), refused(reason, at));
+    }
+    // The planner does not look at the cells.
+    assert_idle(&file, 36);
+    assert_eq!(mark(&file), refused(Reason::CellAboveCap, 60));
+}
+
+#[test]
+fn all_other_calls_take_idle_seats() {
+    let [spoilt, fair] = [IDLE_SPOILT, IDLE_FAIR].map(|sheet| file_of(&k8_with_idle(sheet)));
+    assert_eq!(read(&spoilt), Ok(k8_with_idle(IDLE_SPOILT)));
+    let chain = vec![Move { window: 1, giver: 2, taker: 1 }, Move { window: 2, giver: 4, taker: 2 }];
+    assert_eq!(mark(&spoilt), Ok(Mark::Improvable { chain }));
+    assert_eq!(mark(&fair), Ok(Mark::Settled));
+    assert_eq!((chosen(&spoilt, &fair), chosen(&fair, &spoilt)), (Which::Second, Which::First));
+    let sheet = Fulfilled::Sheet(grid(IDLE_FAIR.unwrap()));
+    assert_eq!(fulfil(&spoilt, &[1, 2, 0, 1]), Ok(sheet));
+    assert_eq!(fulfil(&spoilt, &[0, 0, 1, 0]), Ok(Fulfilled::Group(vec![3])));
+    let mut out = [0; LISTING_LENGTH];
+    let length = listing(&fair, &mut out).unwrap();
+    assert!(out[..length].ends_with(b"seat 3 class 1 total 0\nseat 4 class 1 total 1\nmark 4\n"));
 }
 
 #[test]
