@@ -6,7 +6,8 @@
   make.py --listings MARK PLAN writes the listings anew
 
 MARK and PLAN are the commands of the two programs; both read a day file on standard input.
-NAME.listing is what MARK prints of NAME.day, and NAME.planned.listing what it prints of the file that PLAN makes of it.
+NAME.listing is what MARK prints of NAME.day, and NAME.planned.listing what it prints of the file that PLAN makes of it;
+where PLAN makes none, it is the line of the refusal that PLAN prints.
 No line depends on what the rules leave free, the windows and middle seats of an exchange path: the sheets here have
 one shortest path each.
 """
@@ -51,9 +52,15 @@ def run(command, data):
     return subprocess.run(shlex.split(command), input=data, stdout=subprocess.PIPE).stdout
 
 
+def planned_listing(day, mark, plan):
+    """The listing of the planned file, or the line of the refusal. No day file begins as that line does."""
+    planned = run(plan, day)
+    return planned if planned.startswith(b"refused ") else run(mark, planned)
+
+
 def outputs(day, mark, plan):
     """The stored files of one example beside its text, by their endings."""
-    return {".day": day, ".listing": run(mark, day), ".planned.listing": run(mark, run(plan, day))}
+    return {".day": day, ".listing": run(mark, day), ".planned.listing": planned_listing(day, mark, plan)}
 
 
 def main(arguments):
