@@ -1,5 +1,5 @@
-/* Plans, marks, reads, writes, lists and compares day files, fulfils wanted totals and forecasts plans by libcredits, and checks all that
- * it sees.
+/* Plans, marks, reads, writes, lists and compares day files, fulfils wanted totals and forecasts plans by libcredits, books with idle seats
+ * among them, and checks all that it sees.
  *
  *     example FOLDER       FOLDER is examples/ of this repository
  *
@@ -758,6 +758,98 @@ static void expect_refused(bytes file, uint32_t number, size_t offset) {
     free(out.at);
 }
 
+/* A book that has an idle seat with its class at that offset: neither planned nor forecast, whatever the buffer; and its file can be read
+ * and written again. */
+static void expect_idle(bytes file, size_t offset) {
+    bytes again = written(book_in(file));
+    const size_t lengths[] = {0, 1, file.length - 1, file.length, CREDITS_FILE_MAX};
+    for (size_t k = 0; k < sizeof lengths / sizeof lengths[0]; k++) {
+        bytes part = block(lengths[k]);
+        CHECK(refused(credits_plan(file.at, file.length, part.at, part.length), CREDITS_REFUSED_IDLE, offset) && untouched(part, 0));
+        free(part.at);
+    }
+    CHECK(unforecast(forecast(file), CREDITS_REFUSED_IDLE, offset));
+    CHECK(same(again.at, file, again.length));
+    free(again.at);
+}
+
+static void expect_idle_file(credits_book book, size_t offset) {
+    bytes file = written(book);
+    expect_idle(file, offset);
+    free(file.at);
+}
+
+/* Two sheets of a book whose third seat is idle, one of them settled: listed, compared, and looked for by their totals as others are. */
+static void try_idle(const char *folder) {
+    static const uint32_t wants[] = {1, 2, 0, 1}, more[] = {0, 0, 1, 0};
+    bytes spoilt = load(folder, "idle-four", ".day"), fair = load(folder, "idle-fair", ".day"), moves = block(CREDITS_MOVES_MAX);
+    bytes line = load(folder, "idle-four", ".planned.listing");
+    CHECK(same((const uint8_t *)"refused 22 at 30\n", line, 17));
+    expect_idle(spoilt, 30);
+    expect_idle(fair, 30);
+    expect_listing(spoilt, folder, "idle-four", ".listing");
+    expect_listing(fair, folder, "idle-fair", ".listing");
+    credits_mark_result m = credits_mark(spoilt.at, spoilt.length, moves.at, moves.length);
+    CHECK(m.refusal == CREDITS_OK && m.mark == CREDITS_IMPROVABLE && m.moves == 2);
+    CHECK(memcmp(moves.at, "\1\2\1\2\4\2", 6) == 0 && untouched(moves, 6));
+    CHECK(mark_of(book_in(fair)) == CREDITS_SETTLED);
+    CHECK(chosen(better(spoilt, fair), 2, fair) && chosen(better(fair, spoilt), 1, fair));
+    credits_book book = fulfilled(spoilt, wants), settled = book_in(fair);
+    CHECK(memcmp(book.sheet, settled.sheet, sizeof book.sheet) == 0);
+    CHECK(overasked(spoilt, more) == 4);
+    printf("idle-four, idle-fair: refused 22 at 30 by plan and forecast; read, written, marked, compared and fulfilled\n");
+    free(line.at);
+    free(moves.at);
+    free(fair.at);
+    free(spoilt.at);
+}
+
+/* The lowest idle seat counts, and its class lies behind the contents, which have an entry more for each part. One cap of 1 is enough. */
+static void try_idle_seats(const char *folder) {
+    bytes file = load(folder, "wanted-same", ".day"); /* four seats, three windows, all seven entries, a sheet that is not lawful */
+    const credits_book full = book_in(file);
+    for (uint32_t parts = 0; parts < 16; parts++) {
+        credits_book book = full;
+        book.has_sheet = parts & 1;
+        book.has_first = parts >> 1 & 1;
+        book.has_balances = parts >> 2 & 1;
+        book.has_weights = parts >> 3 & 1;
+        size_t classes = 2 + 6 * (3 + book.has_sheet + book.has_first + book.has_balances + book.has_weights);
+        for (size_t seat = 4; seat-- > 0;) { /* from the last seat on one more is idle each time */
+            memset(book.caps[seat], 0, sizeof book.caps[seat]);
+            expect_idle_file(book, classes + 2 * seat);
+        }
+        for (size_t seat = 0; seat < 4; seat++) { /* from the first seat on one more has a cap, in any window */
+            expect_idle_file(book, classes + 2 * seat);
+            book.caps[seat][seat % 3] = 1;
+        }
+        bytes mended = written(book), plan = planned(mended);
+        CHECK(forecast(mended).refusal == CREDITS_OK && forecast(mended).length == plan.length);
+        free(plan.at);
+        free(mended.at);
+    }
+    printf("idle seats: refused by the lowest, at its class behind 3 to 7 entries; with a cap of 1 for each seat planned\n");
+    free(file.at);
+}
+
+/* A book's faults by value come before its idle seats, up to the weights. */
+static void try_idle_and_spoilt(const char *folder) {
+    bytes file = load(folder, "wanted-same", ".day");
+    credits_book book = book_in(file);
+    memset(book.caps[0], 0, sizeof book.caps[0]);
+    bytes idle = written(book);
+    size_t classes = 2 + 7 * 6, caps = classes + 8 + 6, weights = idle.length - 16;
+    expect_idle(idle, classes);
+    idle.at[weights + 14] = 64; /* the weight of class 8, which class 7 has */
+    expect_refused(idle, CREDITS_REFUSED_WEIGHTS, weights + 14);
+    idle.at[caps + 23] = 16; /* the last cap's high byte */
+    expect_refused(idle, CREDITS_REFUSED_CAP, caps + 22);
+    idle.at[classes + 6] = 9; /* the last class */
+    expect_refused(idle, CREDITS_REFUSED_CLASS, classes + 6);
+    free(idle.at);
+    free(file.at);
+}
+
 static void try_refused_files(const char *folder) {
     bytes nothing = {NULL, 0}, k11 = load(folder, "k11", ".day");
     bytes less = copy(k11.at, 25);
@@ -980,6 +1072,9 @@ int main(int argc, char **argv) {
     try_known_forecasts(folder);
     try_any_sheet(folder);
     try_sums_of_caps();
+    try_idle(folder);
+    try_idle_seats(folder);
+    try_idle_and_spoilt(folder);
     try_refused_wants(folder);
     try_refused_pairs(folder);
     try_refused_files(folder);
