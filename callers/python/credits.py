@@ -197,7 +197,8 @@ def mark(file):
 
 
 def plan(file):
-    """The same day file with the standard sheet: of all settled ones the highest, read seat by seat and window by window."""
+    """The same day file with the standard sheet: of all settled ones the highest, read seat by seat and window by window. A book with an
+    idle seat, whose caps are all zero, is refused by number 22."""
     out = buffer(FILE_MAX)
     return bytes(out[:accepted(LIBRARY.credits_plan(file, len(file), out, FILE_MAX)).length])
 
@@ -243,6 +244,7 @@ def fulfil(file, wanted):
 
 
 def forecast(file):
-    """What a plan of a day file will take, told from the file alone. Cells of a sheet that it holds are neither used nor checked."""
+    """What a plan of a day file will take, told from the file alone. Cells of a sheet that it holds are neither used nor checked. What is
+    not planned for an idle seat is refused here too."""
     f = accepted(LIBRARY.credits_forecast(file, len(file)))
     return Forecast(f.length, list(f.placed))

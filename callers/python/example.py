@@ -1,5 +1,5 @@
 """Plans, marks, reads, writes, lists and compares the day files of a folder (examples/ of this repository), fulfils wanted totals,
-forecasts plans, and checks all that it sees.
+forecasts plans, tries books with idle seats, and checks all that it sees.
 
     python3 callers/python/example.py [FOLDER]
 """
@@ -9,7 +9,7 @@ import sys
 import credits
 
 FOLDER = pathlib.Path(sys.argv[1] if len(sys.argv) > 1 else pathlib.Path(__file__).resolve().parents[2] / 'examples')
-CHECKED = (credits.read, credits.plan, credits.forecast, credits.mark)  # calls with the same checks of a file
+CHECKED = (credits.read, credits.plan, credits.forecast, credits.mark)  # calls with the same checks of a file, but for its sheet and idle seats
 
 
 def refusal(call, *arguments):
@@ -282,6 +282,57 @@ def try_forecasts():
     assert (f.refusal, f.offset, f.length, list(f.placed)) == (1, 0, 0, [0] * credits.WINDOWS)
 
 
+def try_idle_example(day):
+    """A book with an idle seat: the line in place of a plan, the same refusal for the forecast, and all else as for other books."""
+    file = day.read_bytes()
+    assert credits.write(credits.read(file)) == file
+    assert credits.listing(file) == day.with_suffix('.listing').read_text()
+    number, offset = refusal(credits.plan, file)
+    assert f'refused {number} at {offset}\n' == day.with_suffix('.planned.listing').read_text()
+    assert refusal(credits.forecast, file) == (number, offset) == (22, 30)
+    print(f'{day.stem:14} refused {number} at {offset} by plan and forecast, and listed')
+
+
+def try_idle_files():
+    """The same two files, of one book: marked, compared and fulfilled. A refusal leaves the buffer as it was, and no figure but 0."""
+    spoilt, fair = ((FOLDER / f'{name}.day').read_bytes() for name in ('idle-four', 'idle-fair'))
+    assert credits.mark(spoilt) == (credits.IMPROVABLE, 0, 0, [(1, 2, 1), (2, 4, 2)])
+    assert credits.mark(fair) == (credits.SETTLED, 0, 0, [])
+    assert credits.better(spoilt, fair) == (2, fair[-16:]) and credits.better(fair, spoilt) == (1, fair[-16:])
+    assert credits.fulfil(spoilt, [1, 2, 0, 1]) == ([[1, 0], [0, 2], [0, 0], [0, 1]], None)
+    assert credits.fulfil(spoilt, [0, 0, 1, 0]) == (None, [3])
+    for length in (0, 69, 70, credits.FILE_MAX):
+        out = credits.buffer(length)
+        out[:] = [0xee] * length
+        p = credits.LIBRARY.credits_plan(spoilt, len(spoilt), out, length)
+        assert (p.refusal, p.offset, p.length) == (22, 30, 0) and bytes(out) == b'\xee' * length
+    f = credits.LIBRARY.credits_forecast(spoilt, len(spoilt))
+    assert (f.refusal, f.offset, f.length, list(f.placed)) == (22, 30, 0, [0] * credits.WINDOWS)
+    print('idle-four and idle-fair: marked, compared and fulfilled')
+
+
+def try_idle_seats():
+    """K8's book with idle seats, of which the lowest counts: its class lies behind 3 to 7 entries. With one cap of 1 it is planned."""
+    for parts in range(16):
+        book = credits.read((FOLDER / 'k08.day').read_bytes())
+        book.has_sheet = parts & 1
+        book.first_seat = 3 if parts & 2 else None
+        book.carried = [7, 0, 7] if parts & 4 else None
+        book.own_weights = range(1, 9) if parts & 8 else None
+        classes = 2 + 6 * (3 + bin(parts).count('1'))
+        for seat in (2, 1, 0):
+            book.caps[seat] = credits.Row()
+            assert refusal(credits.plan, credits.write(book)) == (22, classes + 2 * seat)
+            assert refusal(credits.forecast, credits.write(book)) == (22, classes + 2 * seat)
+        book.caps[0][0] = book.caps[1][1] = 1
+        assert refusal(credits.plan, credits.write(book)) == (22, classes + 4)
+        book.caps[2][1] = 1
+        plan = credits.plan(credits.write(book))
+        assert [credits.read(plan).total(seat) for seat in range(3)] == [1, 1, 1]
+        assert credits.forecast(credits.write(book)) == (len(plan), [1, 2] + [0] * 22)
+    print('idle seats: refused by the lowest, at its class; with one cap of 1 for each planned')
+
+
 def try_refusals():
     k11 = (FOLDER / 'k11.day').read_bytes()
     for file, number, offset in ((b'', 1, 0), (k11[:-1], 6, 25), (k11 + b'\0', 6, 27)):
@@ -299,8 +350,14 @@ def try_refusals():
     print('a buffer one byte too short: refused, untouched')
 
 
-days = sorted(FOLDER.glob('*.day'))
-assert days
+def is_planned(day):
+    """Whether an example is planned: else the line of the refusal stands in place of the plan's listing."""
+    return not day.with_suffix('.planned.listing').read_text().startswith('refused ')
+
+
+days = [day for day in sorted(FOLDER.glob('*.day')) if is_planned(day)]
+idle_days = [day for day in sorted(FOLDER.glob('*.day')) if not is_planned(day)]
+assert days and [day.stem for day in idle_days] == ['idle-fair', 'idle-four']
 for d in days:
     try_example(d)
 try_chain()
@@ -318,5 +375,9 @@ for d in days:
     try_forecast(d)
 print('forecasts of', len(days), 'examples: what their plans then take')
 try_forecasts()
+for d in idle_days:
+    try_idle_example(d)
+try_idle_files()
+try_idle_seats()
 try_refusals()
 print('Python: all checks passed')
