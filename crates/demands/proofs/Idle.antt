@@ -5,7 +5,7 @@ use mathlib.Core.Logic.{_⊎_, inl, inr}
 use mathlib.Core.Option.{Option, none, some}
 use Prim.Native.Nat.{ℕ, _+_, _*_, _≤_, _<_}
 use lib.ListN.{length, getD}
-use Rattle.model.specs.Book.{Book, Grid, Idle, NoneIdle, seats, isIdle}
+use Rattle.model.specs.Book.{Book, Grid, NoneIdle, seats, isIdle}
 use Rattle.model.proofs.Tests.{true-not-false}
 use Rattle.model.proofs.Books.{idle-test}
 use Rattle.model.proofs.Lowest.{Fails, Lowest, lowest-cases}

@@ -1,19 +1,19 @@
 -- What the steps of the call show, from what is read, granted and stored. Assumes nothing.
 use mathlib.Core.Path.{_≡_, refl, sym, ap, ap₂, subst, _∙_}
 use mathlib.Core.Bool.{true}
-use mathlib.Core.List.{List, _++_}
+use mathlib.Core.List.{List}
 use mathlib.Core.Option.{none, some}
 use Prim.Native.Nat.{ℕ, _*_, _≤_, _<_}
 use native.Mathlib.Omega.{arith}
 use borrow.Author.Tests.{eq-eqb, ne-eqb}
-use lib.ListN.{length, drop, getD}
+use lib.ListN.{length, getD}
 use Rattle.fairness.specs.Wanted.{Grants}
 use Rattle.fairness.proofs.WantedTotals.{same-cells}
 use Rattle.model.specs.Book.{Book, Grid, cell, seats, windows, instanceOf}
 use Rattle.sheet.specs.Sheets.{gridOf}
 use Rattle.dayfile.specs.declared.Book as Memory
 use Rattle.dayfile.specs.declared.Reading.{Reading}
-use Rattle.dayfile.specs.File.{bytesOf, flat}
+use Rattle.dayfile.specs.File.{flat}
 use Rattle.dayfile.specs.Layout.{bookOf, seatsIn, windowsIn}
 use Rattle.dayfile.specs.Table.{refuse, firstOf, line21, readLines, rowLines, bufferLines, bodyLength, fulfilLines}
 use Rattle.dayfile.specs.Memory.{cellsIn, bookIn, front, Reads}
