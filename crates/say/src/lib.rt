@@ -117,7 +117,7 @@ pub fn all_from(bytes: &[u8], at: usize, value: u8) -> bool {
 }
 
 // The numbers from 0 on that a report has a line for.
-pub const ROWS: usize = 22;
+pub const ROWS: usize = 23;
 
 // How much was wrong stands behind three counts for each of these numbers.
 pub const WRONG: usize = 3 * ROWS;
@@ -132,7 +132,7 @@ pub fn say_count(name: &[u8], n: u32) {
 
 // The line of a number; none where its three counts are 0.
 fn say_row(counts: &[u32; COUNTS], row: usize)
-    requires { ⌜ row < 22 ⌝ }
+    requires { ⌜ row < 23 ⌝ }
 {
     let a = counts[3 * row];
     let b = counts[3 * row + 1];
