@@ -6,16 +6,47 @@ use crate::draw_seats;
 use crate::draw_weights;
 use dayfile::Book;
 use dayfile::Day;
+use oracle::idle::all_zero;
 use sheet::Caps;
 
-// For each seat its caps, 0 in a third of the windows.
+// The caps of a seat, 0 in a third of the windows. Where they are 0 in all of them, one is 1: no seat is idle by chance.
+fn draw_seat(state: &mut u32, most: u16) -> [u16; 24] {
+    let mut row = draw_row(state, 24, most, true);
+    if all_zero(row) {
+        let w = below(state, 24) as usize;
+        row[w] = 1;
+    }
+    row
+}
+
+// For each seat its caps.
 fn draw_caps(state: &mut u32, most: u16) -> Caps {
     let mut caps = [[0u16; 24]; 32];
     for i in 0..32usize {
-        let row = draw_row(state, 24, most, true);
+        let row = draw_seat(state, most);
         caps[i] = row;
     }
     caps
+}
+
+// The caps, where a seat drawn at random has none.
+fn draw_idle(state: &mut u32, mut caps: Caps) -> Caps {
+    let i = below(state, 32) as usize;
+    caps[i] = [0u16; 24];
+    caps
+}
+
+// The caps, where in a sixteenth of the cases one seat has none, and in another one two have none.
+fn draw_some_idle(state: &mut u32, caps: Caps) -> Caps {
+    let way = below(state, 16);
+    if 1 < way {
+        return caps;
+    }
+    let idle = draw_idle(state, caps);
+    if way == 0 {
+        return idle;
+    }
+    draw_idle(state, idle)
 }
 
 // How large the caps of a book can be.
@@ -67,9 +98,15 @@ fn draw_book(state: &mut u32, most: u16) -> Book {
     }
 }
 
-// A book with no sheet.
+// A book with no sheet. An eighth has an idle seat.
 pub fn draw_full(state: &mut u32) -> Day {
     let most = draw_most(state);
-    let caps = draw_caps(state, most);
+    let drawn = draw_caps(state, most);
+    let caps = draw_some_idle(state, drawn);
     Day::new(draw_book(state, most), caps, false, caps)
+}
+
+// The same book with a sheet of zeros.
+pub fn with_zeros(day: Day) -> Day {
+    Day::new(day.book, day.caps.to_grid(), true, [[0u16; 24]; 32])
 }

@@ -8,6 +8,7 @@ use crate::draw_weights;
 use crate::up_to;
 use oracle::BUILT_IN;
 use oracle::Small;
+use oracle::rules::total;
 
 pub fn draw_cells(state: &mut u32, seats: usize, windows: usize, most: u16) -> [u16; 12] {
     let mut cells = [0u16; 12];
@@ -15,6 +16,49 @@ pub fn draw_cells(state: &mut u32, seats: usize, windows: usize, most: u16) -> [
         cells[k] = draw_if(state, (k / 3 < seats) & (k % 3 < windows), most);
     }
     cells
+}
+
+// The caps, where every seat has one: in a row of zeros one of them is 1.
+fn with_caps(state: &mut u32, mut caps: [u16; 12], seats: usize, windows: usize) -> [u16; 12]
+    requires { ⌜ (seats ≤ 4) × ((0 < windows) × (windows ≤ 3)) ⌝ }
+{
+    for i in 0..seats {
+        if total(&caps, i) == 0 {
+            let w = below(state, windows as u32) as usize;
+            caps[3 * i + w] = 1;
+        }
+    }
+    caps
+}
+
+// The caps, where a seat drawn at random has none.
+fn draw_idle(state: &mut u32, mut caps: [u16; 12], seats: usize) -> [u16; 12]
+    requires { ⌜ (0 < seats) × (seats ≤ 4) ⌝ }
+{
+    let i = below(state, seats as u32) as usize;
+    caps[3 * i] = 0;
+    caps[3 * i + 1] = 0;
+    caps[3 * i + 2] = 0;
+    caps
+}
+
+// The caps of a book. How many books have an idle seat is not left to chance: in an eighth a seat is made idle, in another one two, which
+// may be the same, and in all others every seat has a cap.
+fn draw_caps(state: &mut u32, seats: usize, windows: usize) -> [u16; 12]
+    requires { ⌜ ((0 < seats) × (seats ≤ 4)) × ((0 < windows) × (windows ≤ 3)) ⌝ }
+{
+    let most = 1 + up_to(state, 2);
+    let drawn = draw_cells(state, seats, windows, most);
+    let caps = with_caps(state, drawn, seats, windows);
+    let way = below(state, 8);
+    if 1 < way {
+        return caps;
+    }
+    let idle = draw_idle(state, caps, seats);
+    if way == 0 {
+        return idle;
+    }
+    draw_idle(state, idle, seats)
 }
 
 // Balances: small ones, so that they and the credits of a sheet decide together; the same close to the largest that there can be; any;
@@ -41,15 +85,14 @@ fn draw_balances(state: &mut u32, seats: usize, there: bool) -> [u16; 32]
 }
 
 // Often of a few classes only, so that there are ties. Any seat is the first, seat 1 too, or none is named. A third has no balances, and a
-// third has weights of its own.
+// third has weights of its own. A quarter has an idle seat.
 pub fn draw_small(state: &mut u32) -> Small {
     let seats = 1 + below(state, 4) as usize;
     let windows = 1 + below(state, 3) as usize;
     let few = up_to(state, 7);
     let classes = draw_seats(state, 4, 1, few);
     let supplies = draw_row(state, windows, 4, false);
-    let most = 1 + up_to(state, 2);
-    let caps = draw_cells(state, seats, windows, most);
+    let caps = draw_caps(state, seats, windows);
     let first = up_to(state, seats as u16);
     let has_balances = below(state, 3) != 0;
     let balances = draw_balances(state, seats, has_balances);

@@ -7,6 +7,8 @@ use dayfile::LONGEST_FILE;
 use draws::put_day;
 use lawful::MOVES_ROOM;
 use listing::LISTING_MAX;
+use oracle::idle::class_at;
+use oracle::paths::byte;
 use say::Reply;
 use say::all_from;
 use say::checked;
@@ -115,6 +117,23 @@ pub fn see(call: Call, file: &[u8], day: Day, room: usize) -> Seen {
 pub fn see_file(call: Call, file: &[u8], room: usize) -> Seen {
     let reading = reader::read(file);
     see(call, file, reading.day, room)
+}
+
+// Whether an answer is this refusal, or none where its number is 0.
+pub fn gives(seen: Seen, number: u8, at: usize) -> bool {
+    let r = seen.reply;
+    seen.kept & (r.taken == (number == 0)) & (r.number == number) & (r.at == at)
+}
+
+// Whether planner and forecast refuse a file by line 22, at the class of this seat, and no byte changes: with a buffer for any file, and
+// with one that is too short for every planned file, since 22 comes before 16.
+pub fn refused_idle(file: &[u8], seat: usize) -> bool
+    requires { ⌜ seat ≤ 32 ⌝ }
+{
+    let at = class_at(byte(file, 0), seat);
+    let whole = see_file(Call::Plan, file, ROOM);
+    let short = see_file(Call::Plan, file, 33);
+    gives(whole, 22, at) & whole.foreseen & gives(short, 22, at) & short.foreseen
 }
 
 // The length of a day's planned file, at the front of a buffer whose bytes are all 255; 0 where it is refused, was forecast otherwise or a

@@ -48,7 +48,8 @@ fn main() {
         40000,
         &mut state,
         b"small books, by number: sheets with this mark, with so many moves, books planned (1: with one settled sheet, 2: with several,
-  3: with balances, 4: with balances that change the plan, 5: with own weights, 6: with own weights that change the plan)\n",
+  3: with balances, 4: with balances that change the plan, 5: with own weights, 6: with own weights that change the plan) or refused by
+  line 22 (22: all, 7: with several idle seats)\n",
     );
     run(
         Kind::Damaged,
@@ -60,7 +61,7 @@ fn main() {
         Kind::Full,
         300,
         &mut state,
-        b"full-size books: planned and marked (0: all, 1: with balances, 2: with own weights)\n",
+        b"full-size books: planned and marked (0: all, 1: with balances, 2: with own weights), refused by line 22 and marked (22: all)\n",
     );
     run(
         Kind::Pair,
@@ -68,13 +69,13 @@ fn main() {
         &mut state,
         b"pairs of hand-ins, by line: neither's (1: different files with equal lists, 2: one book, and balances in one file only,
   3: two books by their balances alone, 4: one book, and own weights in one file only, 5: two books by their weights alone,
-  6: by weights of classes alone that no seat has), the first's, the second's (0: chosen)\n",
+  6: by weights of classes alone that no seat has, 7: one book with an idle seat), the first's, the second's (0: chosen)\n",
     );
     run(
         Kind::Wanted,
         30000,
         &mut state,
         b"wanted totals, by number: refused by this line, sheets for so many seats that want credits, groups of so many seats (5: where
-  no seat alone wants too much, 6: where a want is above 65,535)\n",
+  no seat alone wants too much, 6: where a want is above 65,535; 7, sheets and groups: of a book with an idle seat)\n",
     );
 }

@@ -16,6 +16,7 @@ use draws::small::draw_small;
 use lawful::MOVES_ROOM;
 use oracle::BUILT_IN;
 use oracle::Small;
+use oracle::idle::idle_seat;
 use oracle::memory::sheet_of;
 use oracle::memory::small_of;
 use oracle::paths::byte;
@@ -41,7 +42,7 @@ fn same_bodies(first: &[u8], second: &[u8]) -> bool {
 }
 
 // The offset of a kind's entry; 0 where there is none. No file has more than 7.
-fn entry_in(file: &[u8], kind: u8) -> usize
+pub fn entry_in(file: &[u8], kind: u8) -> usize
     ensures { λ r. ⌜ r < 44 ⌝ }
 {
     for e in 0..7u8 {
@@ -189,11 +190,18 @@ fn put_played(file: &[u8], out: &mut [u8]) -> usize {
     put_small(out, s, true, cells)
 }
 
+// Whether a seat of a file's book is idle.
+fn has_idle(file: &[u8]) -> bool {
+    idle_seat(small_in(file)) != 0
+}
+
 // What two files show of balances and weights, which can be missing, is counted as lines 2 to 6 of neither: one book, though one file has
-// them and the other has none; and two books that differ in balances alone, in weights alone, and in weights alone that no seat has.
+// them and the other has none; and two books that differ in balances alone, in weights alone, and in weights alone that no seat has. One
+// book that has an idle seat is counted as line 7.
 fn count_missing(tally: Tally, first: &[u8], second: &[u8], refusal: u32) -> Tally {
     let chosen = refusal == 0;
-    let seen = count_if(tally, chosen & in_one_only(first, second, 6), 0, 2);
+    let seen = count_if(tally, chosen & has_idle(first), 0, 7);
+    let seen = count_if(seen, chosen & in_one_only(first, second, 6), 0, 2);
     let seen = count_if(seen, chosen & in_one_only(first, second, 7), 0, 4);
     if (refusal != 17) | !same_bodies(first, second) {
         return seen;

@@ -1,6 +1,8 @@
 // Every sheet of a small book, marked, and what the marker says held against the rules; the planned sheet held against the standard one.
+ghost use Prim.Native.Nat.{_≤_};
 use crate::calls::mark;
 use crate::calls::plan_day;
+use crate::calls::refused_idle;
 use crate::tally::Tally;
 use crate::tally::count;
 use crate::tally::count_if;
@@ -13,6 +15,8 @@ use draws::small::without_weights;
 use lawful::MOVES_ROOM;
 use oracle::SHEETS;
 use oracle::Small;
+use oracle::idle::idle_above;
+use oracle::idle::idle_seat;
 use oracle::marks::Told;
 use oracle::marks::rightly_marked;
 use oracle::memory::book_of;
@@ -109,13 +113,20 @@ fn rightly_planned(s: Small, cells: [u16; 12]) -> bool {
     is_file(front(&out, end), s, cells)
 }
 
-// A random small book, planned, and each of its feasible sheets marked. Books with several settled sheets are counted apart, since only
-// they have a settled sheet that is not the standard one. So are those with balances, and those that would be planned otherwise without;
-// and those with weights of their own, likewise.
-pub fn judge(state: &mut u32, tally: Tally) -> Tally {
-    let s = draw_small(state);
-    let best = best_of(s);
-    let rank = best.rank;
+// A book with an idle seat, the lowest of them given, which is not planned. Those with several such seats are counted apart.
+fn judge_idle(tally: Tally, s: Small, seat: usize) -> Tally
+    requires { ⌜ seat ≤ 32 ⌝ }
+{
+    let caps = s.caps;
+    let mut file = [0u8; SMALL_ROOM];
+    let length = put_small(&mut file, s, false, caps);
+    let seen = count(tally, 2, 22, refused_idle(front(&file, length), seat));
+    count_if(seen, idle_above(grid_of(caps), seat, s.seats) != 0, 2, 7)
+}
+
+// The plan of a book. Books with several settled sheets are counted apart, since only they have a settled sheet that is not the standard
+// one. So are those with balances, and those that would be planned otherwise without; and those with weights of their own, likewise.
+fn judge_plan(tally: Tally, s: Small, best: Best) -> Tally {
     let standard = best.cells;
     let number = if best.several { 2 } else { 1 };
     let seen = count(tally, 2, number, rightly_planned(s, standard));
@@ -124,5 +135,17 @@ pub fn judge(state: &mut u32, tally: Tally) -> Tally {
     let seen = count_if(seen, decide, 2, 4);
     let seen = count_if(seen, s.has_weights, 2, 5);
     let decide = !rightly_planned(without_weights(s), standard);
-    judge_sheets(count_if(seen, decide, 2, 6), s, rank)
+    count_if(seen, decide, 2, 6)
+}
+
+// A random small book, planned unless a seat is idle, and each of its feasible sheets marked, whether or not one is.
+pub fn judge(state: &mut u32, tally: Tally) -> Tally {
+    let s = draw_small(state);
+    let best = best_of(s);
+    let rank = best.rank;
+    let seat = idle_seat(s);
+    if seat != 0 {
+        return judge_sheets(judge_idle(tally, s, seat), s, rank);
+    }
+    judge_sheets(judge_plan(tally, s, best), s, rank)
 }

@@ -14,6 +14,7 @@ use draws::wanted::ROW_ROOM;
 use draws::wanted::draw_length;
 use draws::wanted::draw_wanted;
 use oracle::Small;
+use oracle::idle::idle_seat;
 use oracle::memory::cells_in;
 use oracle::paths::byte;
 use oracle::wanted::gives;
@@ -96,13 +97,15 @@ fn rightly_told(reply: Reply, due: FulfilResult) -> bool {
 fn judge_sheet(tally: Tally, s: Small, wants: [u32; 4], length: usize, out: &[u8]) -> Tally {
     let cells = cells_in(out, s.seats, s.windows);
     let right = gives(s, wants, &cells) & all_from(out, length, 255);
-    count(tally, 1, wanting(wants), right)
+    let seen = count_if(tally, idle_seat(s) != 0, 1, 7);
+    count(seen, 1, wanting(wants), right)
 }
 
 // A group, which wants more than it can get, and writes nothing.
 fn judge_group(tally: Tally, s: Small, wants: [u32; 4], group: u32, out: &[u8]) -> Tally {
     let right = overasks(s, wants, group) & all_from(out, 0, 255);
-    let seen = count(tally, 2, size(group) as usize, right);
+    let seen = count_if(tally, idle_seat(s) != 0, 2, 7);
+    let seen = count(seen, 2, size(group) as usize, right);
     let seen = count_if(seen, !some_seat(s, wants), 2, 5);
     count_if(seen, is_large(wants), 2, 6)
 }
