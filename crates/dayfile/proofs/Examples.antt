@@ -7,12 +7,13 @@ use Prim.Native.Nat.{ℕ}
 use lib.ListN.{take}
 use Rattle.fairness.specs.Leximin.{table}
 use Rattle.model.specs.Lowest.{lowest}
-use Rattle.model.specs.Book.{Book, Grid, withFirst, withBalances, withWeights}
+use Rattle.model.specs.Book.{Book, Grid, withFirst, withBalances, withWeights, isIdle}
 use Rattle.dayfile.specs.Layout.{field, entryOf, ends, fieldsAt, gridAt, firstIn, balancesIn, weightsIn, bookOf, sheetOf}
 use Rattle.dayfile.specs.File.{bytesOf, contents, bodies, fieldsOf, assemble, flat, optPart, optParts, partsOf, fileOf}
 use Rattle.dayfile.specs.Table.{refuse, kindRight, sizeRight, gridRight, wrongField}
 use Rattle.dayfile.specs.Table.{line1, line2, line3, line4, line5, line6, line7, line8, line9, line10, line11, line12}
 use Rattle.dayfile.specs.Table.{wrongFields, line18, line19, line20, contentsLines, lengthLines, valueLines, optionLines, readLines}
+use Rattle.dayfile.specs.Table.{firstOf, line16, line22, idleLines, bufferLines, forecastLines, planLines, plannedLength}
 use Rattle.dayfile.specs.Outcome.{turnedAway, answer, readFile}
 
 -- the K10 book: supply 3; cap 2
@@ -168,3 +169,50 @@ unfolding readFile readLines contentsLines lengthLines valueLines optionLines
     line18 line19 line20 wrongFields lowest kindRight sizeRight gridRight wrongField field ends entryOf
     firstIn balancesIn weightsIn bookOf sheetOf fieldsAt gridAt table
 own-read = (refl, refl, refl, refl, refl, refl)
+
+-- ---- idle seats
+
+-- three seats of class 1 and two windows of 4 credits, with these caps of the first two seats; the third has none: 42 bytes
+abbrev three : (a b c d : ℕ) → List ℕ
+three a b c d =
+    0x03 ∷ 0x00
+    ∷ 0x01 ∷ 0x00 ∷ 0x14 ∷ 0x00 ∷ 0x06 ∷ 0x00
+    ∷ 0x02 ∷ 0x00 ∷ 0x1A ∷ 0x00 ∷ 0x04 ∷ 0x00
+    ∷ 0x03 ∷ 0x00 ∷ 0x1E ∷ 0x00 ∷ 0x0C ∷ 0x00
+    ∷ 0x01 ∷ 0x00 ∷ 0x01 ∷ 0x00 ∷ 0x01 ∷ 0x00 ∷ 0x04 ∷ 0x00 ∷ 0x04 ∷ 0x00
+    ∷ a ∷ 0x00 ∷ b ∷ 0x00 ∷ c ∷ 0x00 ∷ d ∷ 0x00 ∷ 0x00 ∷ 0x00 ∷ 0x00 ∷ 0x00 ∷ []
+
+-- it is refused by 22 at the class of the lowest idle seat, and a buffer of no bytes does not hide that; but it is read
+pub idle-told :
+    (firstOf (forecastLines (three 4 0 0 4)) ≡ some (refuse 22 24))
+    × (firstOf (forecastLines (three 0 4 0 0)) ≡ some (refuse 22 22))
+    × (firstOf (forecastLines (three 0 0 0 1)) ≡ some (refuse 22 20))
+    × (firstOf (planLines (three 4 0 0 0) 0) ≡ some (refuse 22 22))
+    × (readFile (three 0 0 0 0) ≡ answer (
+      record {
+        classes = 1 ∷ 1 ∷ 1 ∷ [];
+        supplies = 4 ∷ 4 ∷ [];
+        caps = (0 ∷ 0 ∷ []) ∷ (0 ∷ 0 ∷ []) ∷ (0 ∷ 0 ∷ []) ∷ [];
+        first = none;
+        balances = none;
+        weights = none;
+      },
+      none,
+    ))
+unfolding readFile readLines contentsLines lengthLines valueLines optionLines
+    line1 line2 line3 line4 line5 line6 line7 line8 line9 line10 line11 line12
+    line18 line19 line20 wrongFields lowest kindRight sizeRight gridRight wrongField field ends entryOf
+    firstIn balancesIn weightsIn bookOf sheetOf fieldsAt gridAt table
+    idleLines line22 isIdle planLines bufferLines line16 plannedLength
+idle-told = (refl, refl, refl, refl, refl)
+
+-- K11, which has none: nothing but 16 keeps it from being planned
+pub none-idle-told :
+    (firstOf (forecastLines k11) ≡ none) × (firstOf (planLines k11 33) ≡ some (refuse 16 34)) × (firstOf (planLines k11 34) ≡ none)
+unfolding readFile readLines contentsLines lengthLines valueLines optionLines
+    line1 line2 line3 line4 line5 line6 line7 line8 line9 line10 line11 line12
+    line18 line19 line20 wrongFields lowest kindRight sizeRight gridRight wrongField field ends entryOf
+    firstIn balancesIn weightsIn bookOf sheetOf fieldsAt gridAt table
+    idleLines line22 isIdle planLines bufferLines line16 plannedLength
+    fileOf partsOf optParts optPart flat assemble fieldsOf contents bodies bytesOf
+none-idle-told = (refl, refl, refl)

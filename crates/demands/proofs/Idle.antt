@@ -14,12 +14,12 @@ use Rattle.dayfile.specs.declared.Reading.{Reading}
 use Rattle.dayfile.specs.declared.Written.{Written}
 use Rattle.dayfile.specs.declared.Written.the-variants.{Whole}
 use Rattle.dayfile.specs.Layout.{field, start, bookOf, sheetOf}
-use Rattle.dayfile.specs.Table.{refuse, firstOf, readLines, forecastLines, planLines, plannedLength}
-use Rattle.dayfile.specs.Table.{writeLines, markLines, betterLines, fulfilLines}
+use Rattle.dayfile.specs.Table.{Refusal, refuse, firstOf, readLines, idleLines, forecastLines, planLines, plannedLength}
+use Rattle.dayfile.specs.Table.{writeLines, markLines, betterLines, fulfilLines, bufferLines}
 use Rattle.dayfile.specs.Outcome.{turnedAway, answer, readFile}
 use Rattle.dayfile.specs.Memory.{fileIn, reading, written, Reads, WritesDay}
 use Rattle.dayfile.proofs.Accepted.{seats-are}
-use Rattle.dayfile.proofs.Answers.{answered, refusal-first, tells-refusal, tells-answer}
+use Rattle.dayfile.proofs.Answers.{away, answered, refusal-first, tells-refusal, tells-answer}
 use Rattle.dayfile.proofs.Fields.{fields-at}
 use Rattle.dayfile.proofs.Idle.{forecast-free, forecast-idle, read-not-22, write-not-22, mark-not-22, better-not-22, fulfil-not-22}
 use Rattle.dayfile.proofs.Lines.{stop-in, none-holds, unnumbered}
@@ -27,6 +27,8 @@ use Rattle.answers.specs.declared.Marking.{Marking}
 use Rattle.answers.specs.Answers.{told}
 use Rattle.marker.specs.Marking.{Marks}
 use Rattle.planner.specs.Planning.{Plans}
+use Rattle.listing.specs.Listing.{listingMax}
+use Rattle.listing.specs.Calls.{Lists}
 use Rattle.choice.specs.declared.Choice.{Choice}
 use Rattle.better.specs.Choice.{sideOf, Chooses}
 use Rattle.reply.specs.declared.Reply.{Reply}
@@ -103,6 +105,19 @@ module _ (file : List ℕ) (b : Book) (i : ℕ) (w : WithIdle file b i) where
       ap (λ (x : Book). getD (x .classes) i 0) (sym same)
       ∙ fields-at file (start file 0) _ i (subst (λ (n : ℕ). i < n) (seats-are file) below)
 
+-- ---- behind the reader's lines
+
+pub reader-first : (file : List ℕ) (q : Refusal) → readFile file ≡ turnedAway q →
+    ((before after : List ℕ) (r : Written) → Plans file before after r → written r ≡ turnedAway q)
+    × ((r : Foretold) → Forecasts file r → foretold r ≡ turnedAway q)
+unfolding readFile planLines
+reader-first file q e =
+    let first : firstOf (readLines file) ≡ some q = away (firstOf (readLines file)) _ q e in
+    let here = stop-in (readLines file) (idleLines file) q first in (
+      λ before after r plans. tells-refusal plans _ (stop-in (forecastLines file) _ _ here) .0,
+      λ r h. tells-refusal (h .defined) _ here .0,
+    )
+
 -- ---- no other call says 22
 
 pub read : (file : List ℕ) (r : Reading) (p : ℕ) → Reads file r → reading r ≡ turnedAway (refuse 22 p) → ⊥
@@ -116,6 +131,10 @@ write d before after r p h e =
 pub mark : (file before after : List ℕ) (r : Marking) (p : ℕ) → Marks file before after r → told r ≡ turnedAway (refuse 22 p) → ⊥
 mark file before after r p h e =
     unnumbered 22 (markLines file (length before)) _ (mark-not-22 file (length before)) (refusal-first h _ e) refl
+
+pub list : (file before after : List ℕ) (r : Written) (p : ℕ) → Lists file before after r → written r ≡ turnedAway (refuse 22 p) → ⊥
+unfolding bufferLines
+list file before after r p h e = unnumbered 22 (bufferLines (length before) listingMax) _ refl (refusal-first h _ e) refl
 
 pub better : (f g : List ℕ) (r : Choice) (p : ℕ) → Chooses f g r → sideOf r ≡ turnedAway (refuse 22 p) → ⊥
 better f g r p h e = unnumbered 22 (betterLines f g) _ (better-not-22 f g) (refusal-first (h .defined) _ e) refl

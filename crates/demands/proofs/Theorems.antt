@@ -86,10 +86,12 @@ idle-seats =
       not-planned = idle.not-planned;
       not-forecast = idle.not-forecast;
       class-there = idle.class-there;
+      reader-first = idle.reader-first;
       forecasts = idle.forecasts;
       read = idle.read;
       write = idle.write;
       mark = idle.mark;
+      list = idle.list;
       better = idle.better;
       fulfil = idle.fulfil;
     }

@@ -278,14 +278,19 @@ pub record IdleSeats : Type 0 where
   pub not-forecast : (file : List ℕ) (b : Book) (i : ℕ) → WithIdle file b i → (r : Foretold) →
       Forecasts file r → foretold r ≡ turnedAway (refuse 22 (start file 0 + 2 * i))
   pub class-there : (file : List ℕ) (b : Book) (i : ℕ) → WithIdle file b i → getD (b .classes) i 0 ≡ field file (start file 0 + 2 * i)
+  -- behind all lines of the reader's: what it refuses, planner and forecast refuse alike
+  pub reader-first : (file : List ℕ) (q : Refusal) → readFile file ≡ turnedAway q →
+      ((before after : List ℕ) (r : Written) → Plans file before after r → written r ≡ turnedAway q)
+      × ((r : Foretold) → Forecasts file r → foretold r ≡ turnedAway q)
   -- of an accepted book that has none both figures are told (for the planner see demand 3)
   pub forecasts : (file : List ℕ) (b : Book) (s : Option Grid) → readFile file ≡ answer (b, s) → NoneIdle b →
       (r : Foretold) → Forecasts file r → foretold r ≡ answer (figuresOf b)
-  -- and no other call says 22: files with an idle seat are read, written, marked, compared and given wanted totals as before
+  -- and no other call says 22: files with an idle seat are read, written, marked, listed, compared and given wanted totals as before
   pub read : (file : List ℕ) (r : Reading) (p : ℕ) → Reads file r → reading r ≡ turnedAway (refuse 22 p) → ⊥
   pub write : (d : Day) (before after : List ℕ) (r : Written) (p : ℕ) → WritesDay d before after r →
       written r ≡ turnedAway (refuse 22 p) → ⊥
   pub mark : (file before after : List ℕ) (r : Marking) (p : ℕ) → Marks file before after r → told r ≡ turnedAway (refuse 22 p) → ⊥
+  pub list : (file before after : List ℕ) (r : Written) (p : ℕ) → Lists file before after r → written r ≡ turnedAway (refuse 22 p) → ⊥
   pub better : (f g : List ℕ) (r : Choice) (p : ℕ) → Chooses f g r → sideOf r ≡ turnedAway (refuse 22 p) → ⊥
   pub fulfil : (file row before after : List ℕ) (r : Reply) (p : ℕ) → Fulfils file row before after r →
       replied r ≡ turnedAway (refuse 22 p) → ⊥

@@ -31,7 +31,8 @@ fn planned_sheet(book: Book, caps: Caps) -> Caps
 // The lines behind the reader's, of a file whose book is in memory and a buffer of `room` bytes: 22, then 16.
 fn check_rest(file: &[u8], book: Book, caps: &Caps, room: usize) -> Check
     requires { ⌜ (bookIn book (now caps) ≡ bookOf (now file)) × Fit (bookIn book (now caps)) ⌝ }
-    ensures { λ r. ⌜ refused r ≡ firstOf (idleLines (now (file .entry)) ++ bufferLines room (plannedLength (bookOf (now (file .entry))))) ⌝ }
+    ensures { λ r. ⌜ refused r ≡ firstOf (idleLines (now (file .entry))
+        ++ bufferLines room (plannedLength (bookOf (now (file .entry))))) ⌝ }
 {
     let idle = check_idle(file, book, caps);
     let short = check_room(room, file_length(book, true));
