@@ -110,8 +110,8 @@ pub record Demand2 : Type 0 where
       (w ≡ Whole (length file)) × (after ≡ front file before)
 
 -- ---- Demand 3: the marker passes a lawful sheet exactly when its sorted list of levels equals the highest of all lawful sheets; the
--- planner's sheet always passes, and by paper 02, E9, there is one of every book without an idle seat; the chain of a failing sheet, played
--- move by move, is possible at every turn and ends in a lawful sheet with a higher list.
+-- planner's sheet always passes, and since paper 02, E9, every book without an idle seat has one; the chain of a failing sheet, played move
+-- by move, is possible at every turn and ends in a lawful sheet with a higher list.
 
 -- an accepted file with a lawful sheet, and what the marker answers with a buffer that is long enough
 pub record Marked (file : List ℕ) (b : Book) (s : Grid) (before after : List ℕ) (r : Marking) : Type 0 where
@@ -158,7 +158,7 @@ pub record Demand3 : Type 0 where
   pub planned-passes : (file before after : List ℕ) (n : ℕ) → Plans file before after (Whole n) →
       (moves moves′ : List ℕ) (r : Marking) → movesRoom ≤ length moves → Marks (take n after) moves moves′ r →
       told r ≡ answer (record { mark = 4; window = 0; seat = 0; moves = 0 })
-  -- so it is of every accepted book without an idle seat: given a buffer that is long enough, the planner plans it
+  -- these two are not said of nothing: given a buffer that is long enough, the planner plans every accepted book without an idle seat
   pub plans : (file : List ℕ) (b : Book) (s : Option Grid) → readFile file ≡ answer (b, s) → NoneIdle b →
       (before after : List ℕ) (r : Written) → plannedLength b ≤ length before → Plans file before after r → r ≡ Whole (plannedLength b)
 
@@ -190,7 +190,7 @@ pub record OneStandardSheet : Type 0 where
   -- every book has one, and no other
   pub there : (b : Book) → (s : Grid) × StandardSheet b s
   pub no-other : (b : Book) (s t : Grid) → StandardSheet b s → StandardSheet b t → s ≡ t
-  -- of a file that it does not turn away the planner writes the same bytes to any two buffers that are long enough
+  -- of a file that nothing but 16 can turn away the planner writes the same bytes to any two buffers that are long enough
   pub same-plan : (file : List ℕ) → NoneHolds (forecastLines file) → (before after before′ after′ : List ℕ) (r r′ : Written) →
       plannedLength (bookOf file) ≤ length before → plannedLength (bookOf file) ≤ length before′ →
       Plans file before after r → Plans file before′ after′ r′ →
