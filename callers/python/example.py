@@ -9,7 +9,8 @@ import sys
 import credits
 
 FOLDER = pathlib.Path(sys.argv[1] if len(sys.argv) > 1 else pathlib.Path(__file__).resolve().parents[2] / 'examples')
-CHECKED = (credits.read, credits.plan, credits.forecast, credits.mark)  # calls with the same checks of a file, but for its sheet and idle seats
+# the calls with the same checks of a file, but for its sheet and idle seats
+CHECKED = (credits.read, credits.plan, credits.forecast, credits.mark)
 
 
 def refusal(call, *arguments):

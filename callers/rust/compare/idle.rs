@@ -1,7 +1,7 @@
 //! Idle seats, whose caps are all zero: books that have them, and how often each call met them. Plan and forecast refuse such a book, and
 //! every other call takes it.
 
-use super::reference::{self, feasible, Book, SEATS, WINDOWS};
+use super::reference::{self, feasible, Book, MOST_CREDITS, SEATS, WINDOWS};
 use super::rng::Rng;
 use super::Seen;
 
@@ -44,11 +44,18 @@ const GROUP_WITH: usize = 5;
 const GROUP_WITHOUT: usize = 6;
 
 /// Books that are planned, though one of their seats is nearly idle, by place in the count.
-pub const NEARLY: [&str; 3] =
-    ["with one cap of 1 for a seat", "with one in the last window", "with a seat that can get nothing"];
+pub const NEARLY: [&str; 5] = [
+    "with one cap of 1 for a seat",
+    "with one in the last window",
+    "with a seat that can get nothing",
+    "with caps whose low bytes are 0",
+    "with caps of 65,536 together",
+];
 const ONE_CAP: usize = 0;
 const LAST_WINDOW: usize = 1;
 const GETS_NOTHING: usize = 2;
+const LOW_BYTES: usize = 3;
+const WRAPPING: usize = 4;
 
 /// How often each of these came up; the files refused by 22 also by their entries, 3 to 7, and the sheets of books with an idle seat by
 /// their marks.
@@ -71,9 +78,10 @@ impl Counts {
 
 /// One book in six has idle seats; some of the others have a seat that is nearly idle.
 pub fn at_times(rng: &mut Rng, book: Book) -> Book {
-    match rng.below(18) {
-        0..=2 => with_idle_seats(rng, book),
-        3 => with_one_cap(rng, book),
+    match rng.below(36) {
+        0..=5 => with_idle_seats(rng, book),
+        6 | 7 => with_one_cap(rng, book),
+        8 if book.windows > 16 => with_wrapping_caps(rng, book),
         _ => book,
     }
 }
@@ -91,15 +99,24 @@ fn with_idle_seats(rng: &mut Rng, mut book: Book) -> Book {
     book
 }
 
-/// The same book, in which one seat has a cap of 1 in one window and no other; at times the window has nothing to give.
+/// The same book, in which one seat has a cap in one window and no other, of 1 or of 256; at times the window has nothing to give.
 fn with_one_cap(rng: &mut Rng, mut book: Book) -> Book {
     let (seat, last) = (rng.below(book.seats), book.windows - 1);
     let window = [0, last, rng.below(book.windows)][rng.below(3)];
     book.caps[seat] = [0; WINDOWS];
-    book.caps[seat][window] = 1;
+    book.caps[seat][window] = [1, 1, 256][rng.below(3)];
     if rng.once_in(3) {
         book.supplies[window] = 0;
     }
+    book
+}
+
+/// The same book of 17 windows or more, in which the caps of one seat add up to 65,536, which is 0 in two bytes.
+fn with_wrapping_caps(rng: &mut Rng, mut book: Book) -> Book {
+    let seat = rng.below(book.seats);
+    book.caps[seat] = [0; WINDOWS];
+    book.caps[seat][..16].fill(MOST_CREDITS);
+    book.caps[seat][book.windows - 1] = 16;
     book
 }
 
@@ -135,15 +152,17 @@ pub fn count_refused(seen: &mut Seen, file: &[u8], offset: usize, short_buffer: 
 
 /// A book was planned.
 pub fn count_planned(seen: &mut Seen, book: &Book) {
-    let only_cap = |seat: &usize| book.caps[*seat].iter().map(|&cap| cap as u32).sum::<u32>() == 1;
+    let sum = |seat: usize| book.caps[seat].iter().map(|&cap| cap as u32).sum::<u32>();
     let gets_nothing =
         |seat: usize| (0..book.windows).all(|window| book.caps[seat][window].min(book.supplies[window]) == 0);
-    let nearly_idle: Vec<usize> = (0..book.seats).filter(only_cap).collect();
+    let nearly_idle: Vec<usize> = (0..book.seats).filter(|&seat| sum(seat) == 1).collect();
     let counts = &mut seen.idle.nearly;
     counts[ONE_CAP] += !nearly_idle.is_empty() as usize;
     counts[LAST_WINDOW] +=
         (book.windows > 1 && nearly_idle.iter().any(|&seat| book.caps[seat][book.windows - 1] == 1)) as usize;
     counts[GETS_NOTHING] += (0..book.seats).any(gets_nothing) as usize;
+    counts[LOW_BYTES] += (0..book.seats).any(|seat| book.caps[seat].iter().all(|cap| cap % 256 == 0)) as usize;
+    counts[WRAPPING] += (0..book.seats).any(|seat| sum(seat) == 1 << 16) as usize;
 }
 
 /// A file was read.

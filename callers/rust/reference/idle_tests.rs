@@ -96,6 +96,18 @@ fn one_cap_of_1_is_enough() {
 }
 
 #[test]
+fn caps_that_look_like_zero_in_fewer_bytes() {
+    // Low bytes of 0; and 16 caps of 4,095 and one of 16 add up to 65,536, which is 0 in two bytes.
+    let mut wraps = [MOST_CREDITS; 17];
+    wraps[16] = 16;
+    let rows: [&[u16]; 4] = [&[256], &[0, 256], &[256, 3840], &wraps];
+    for row in rows {
+        let one = book(&[1], &vec![5; row.len()], &[row]);
+        assert_eq!(not_planned(&file_of(&one, None)), None, "{row:?}");
+    }
+}
+
+#[test]
 fn what_lies_beside_the_caps_does_not_count() {
     // Cells that are not used are no caps, though a book in memory may have something there.
     let mut beside = k8_with_idle();
