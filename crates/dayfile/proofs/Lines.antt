@@ -27,26 +27,7 @@ pub three-as : (n : ℕ) {r : Option Refusal} {a b c x y z : Option ℕ}
     → r ≡ firstOf (line n x ∷ line (n + 1) y ∷ line (n + 2) z ∷ [])
 three-as n e p q s = e ∙ rw (p, q, s)
 
-stop-line : (n : ℕ) (o : Option ℕ) (a b : Option Refusal) (q : Refusal)
-    → (a ≡ some q → b ≡ some q) → orRefuse n o a ≡ some q → orRefuse n o b ≡ some q
-stop-line n none a b q k e = k e
-stop-line n (some p) a b q k e = e
-
-on-line : (n : ℕ) (o : Option ℕ) (a b d : Option Refusal) → (a ≡ none → b ≡ d) → orRefuse n o a ≡ none → orRefuse n o b ≡ d
-on-line n none a b d k e = k e
-on-line n (some p) a b d k e = let z : _≡_ {A = ℕ} 0 1 = cc in absurd (omega arith)
-
--- a group of lines, and the lines after it
-pub stop-in : (xs ys : List Line) (q : Refusal) → firstOf xs ≡ some q → firstOf (xs ++ ys) ≡ some q
-stop-in [] ys q e = let z : _≡_ {A = ℕ} 0 1 = cc in absurd (omega arith)
-stop-in (l ∷ xs) ys q e = stop-line (l .number) (l .place) (firstOf xs) (firstOf (xs ++ ys)) q (stop-in xs ys q) e
-
-pub on-after : (xs ys : List Line) → firstOf xs ≡ none → firstOf (xs ++ ys) ≡ firstOf ys
-on-after [] ys e = refl
-on-after (l ∷ xs) ys e =
-    on-line (l .number) (l .place) (firstOf xs) (firstOf (xs ++ ys)) (firstOf ys) (on-after xs ys) e
-
--- a group, and else those after it
+-- a group of lines, and else those after it
 pub first-both : (xs ys : List Line) → firstOf (xs ++ ys) ≡ orElse (firstOf xs) (firstOf ys)
 first-both [] ys = refl
 first-both (l ∷ xs) ys = go (l .place) (first-both xs ys)
@@ -55,6 +36,12 @@ first-both (l ∷ xs) ys = go (l .place) (first-both xs ys)
         orRefuse (l .number) o (firstOf (xs ++ ys)) ≡ orElse (orRefuse (l .number) o (firstOf xs)) (firstOf ys)
     go none rest = rest
     go (some p) rest = refl
+
+pub stop-in : (xs ys : List Line) (q : Refusal) → firstOf xs ≡ some q → firstOf (xs ++ ys) ≡ some q
+stop-in xs ys q e = first-both xs ys ∙ ap (λ (o : Option Refusal). orElse o (firstOf ys)) e
+
+pub on-after : (xs ys : List Line) → firstOf xs ≡ none → firstOf (xs ++ ys) ≡ firstOf ys
+on-after xs ys e = first-both xs ys ∙ ap (λ (o : Option Refusal). orElse o (firstOf ys)) e
 
 -- ---- none holds
 

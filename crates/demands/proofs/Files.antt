@@ -4,12 +4,11 @@ use mathlib.Core.List.{List, _++_}
 use mathlib.Core.Option.{none}
 use Prim.Native.Nat.{ℕ, _≤_}
 use native.Mathlib.Omega.{arith}
-use borrow.Author.Tests.{le-ltb}
 use lib.ListN.{length, take, drop}
 use lib.Seq.{take-at}
 use Rattle.dayfile.specs.Layout.{Bytes, bookOf, sheetOf}
 use Rattle.dayfile.specs.File.{fileOf}
-use Rattle.dayfile.specs.Table.{firstOf, line16, readLines}
+use Rattle.dayfile.specs.Table.{firstOf, readLines}
 use Rattle.dayfile.specs.Table.{contentsLines, lengthLines, valueLines, optionLines, bufferLines, writeLines}
 use Rattle.dayfile.specs.Outcome.{answer, readFile, NoneHolds}
 use Rattle.dayfile.specs.Memory.{dayBook, daySheet, fileWith, fileIn, front, written, Reads, WritesDay}
@@ -18,7 +17,7 @@ use Rattle.dayfile.specs.declared.Reading.{Reading}
 use Rattle.dayfile.specs.declared.Written.{Written}
 use Rattle.dayfile.specs.declared.Written.the-variants.{Refused, Whole}
 use Rattle.dayfile.proofs.Answers.{answer-none, tells-answer}
-use Rattle.dayfile.proofs.Lines.{none-first-of, none-holds, none-parts, on-after}
+use Rattle.dayfile.proofs.Lines.{none-first-of, none-holds, none-parts, on-after, room-enough}
 use Rattle.dayfile.proofs.Readings.{read-day}
 use Rattle.dayfile.proofs.Theorems.{accepted-exactly, read-writes-back, memory-reads-back}
 
@@ -36,15 +35,14 @@ reads-back d before end n h =
 
 -- where the reader's lines are free, so are the writer's on the same file, if the buffer is long enough
 write-free : (f : List ℕ) (room : ℕ) → firstOf (readLines f) ≡ none → length f ≤ room → firstOf (writeLines f room) ≡ none
-unfolding readLines lengthLines writeLines bufferLines line16
+unfolding readLines lengthLines writeLines
 write-free f room free long =
     let rest = none-parts (contentsLines f) (lengthLines f ++ (valueLines f ++ optionLines f)) free .1 in
     let lengths = none-holds (lengthLines f) (none-parts (lengthLines f) (valueLines f ++ optionLines f) rest .0) in
     let values = none-parts (valueLines f) (optionLines f) (none-parts (lengthLines f) (valueLines f ++ optionLines f) rest .1) in
-    let buffer : firstOf (bufferLines room (length f)) ≡ none = rw (le-ltb room (length f) long) refl in
     rw (lengths .0, lengths .1 .0)
     (on-after (valueLines f) (optionLines f ++ bufferLines room (length f)) (values .0)
-    ∙ on-after (optionLines f) (bufferLines room (length f)) (values .1) ∙ buffer)
+    ∙ on-after (optionLines f) (bufferLines room (length f)) (values .1) ∙ room-enough room (length f) long)
 
 -- a call that answers a length wrote a whole file
 pub whole-of : (r : Written) (n : ℕ) → written r ≡ answer n → r ≡ Whole n

@@ -2,7 +2,7 @@
 use mathlib.Core.Path.{_≡_, refl, sym, ap, ap₂, subst, _∙_}
 use mathlib.Core.Bool.{true}
 use mathlib.Core.List.{List}
-use mathlib.Core.Option.{none, some}
+use mathlib.Core.Option.{Option, none, some}
 use Prim.Native.Nat.{ℕ, _*_, _≤_, _<_}
 use native.Mathlib.Omega.{arith}
 use borrow.Author.Tests.{eq-eqb, ne-eqb}
@@ -15,9 +15,9 @@ use Rattle.dayfile.specs.declared.Book as Memory
 use Rattle.dayfile.specs.declared.Reading.{Reading}
 use Rattle.dayfile.specs.File.{flat}
 use Rattle.dayfile.specs.Layout.{bookOf, seatsIn, windowsIn}
-use Rattle.dayfile.specs.Table.{refuse, firstOf, line21, readLines, rowLines, bufferLines, bodyLength, fulfilLines}
+use Rattle.dayfile.specs.Table.{Refusal, refuse, firstOf, line21, readLines, rowLines, bufferLines, bodyLength, fulfilLines}
 use Rattle.dayfile.specs.Memory.{cellsIn, bookIn, front, Reads}
-use Rattle.dayfile.proofs.Lines.{stop-in, on-after, none-parts, room-short, room-enough, room-none}
+use Rattle.dayfile.proofs.Lines.{stop-in, on-after, none-parts, room-none}
 use Rattle.dayfile.proofs.Accepted.{seats-are, windows-are}
 use Rattle.dayfile.proofs.Answers.{defined-refusal, defined-answer}
 use Rattle.dayfile.proofs.Grids.{sized-flat-length}
@@ -48,14 +48,10 @@ module _ (f row : List ℕ) (room : ℕ) where
   unfolding rowLines
   lent-row p e = rw e refl
 
-  module _ (passed : line21 f row ≡ none) (need : ℕ) (need-is : need ≡ bodyLength f) where
-    pub lent-short : room < need → some (refuse 16 need) ≡ firstOf (lentLines f row room)
-    unfolding rowLines
-    lent-short l = rw (passed, ← need-is) (sym (room-short room need l))
-
-    pub lent-passes : need ≤ room → none ≡ firstOf (lentLines f row room)
-    unfolding rowLines
-    lent-passes l = rw (passed, ← need-is) (sym (room-enough room need l))
+  pub lent-buffer : line21 f row ≡ none → (need : ℕ) → need ≡ bodyLength f → {x : Option Refusal} → x ≡ firstOf (bufferLines room need) →
+      x ≡ firstOf (lentLines f row room)
+  unfolding rowLines
+  lent-buffer passed need need-is e = rw (passed, ← need-is) e
 
 -- no line of the two holds, so the buffer is long enough
 pub lent-room : (f row : List ℕ) (room : ℕ) → firstOf (lentLines f row room) ≡ none → bodyLength f ≤ room

@@ -1,13 +1,13 @@
 // From wanted totals to a sheet: of a day file and a row of them, a lawful sheet with just those totals, or a group of seats that wants
 // more than it can get.
 ghost use mathlib.Core.Path.{_≡_};
-ghost use Prim.Native.Nat.{_<_};
 ghost use Rattle.dayfile.specs.Table.{firstOf, line21, bodyLength};
 ghost use Rattle.dayfile.specs.Memory.{found, refused};
 ghost use Rattle.fulfil.specs.Fulfilling.{Fulfils};
 ghost use Rattle.fulfil.specs.Steps.{lentLines};
 use dayfile::Check;
 use dayfile::Found;
+use dayfile::check_room;
 use fields::seats;
 use fields::windows;
 use grant::grant;
@@ -41,14 +41,7 @@ fn check_lent(file: &[u8], row: &[u8], room: usize) -> Check
     if let Found::At(p) = wrong_row(file, row) {
         return Check::Refused { number: 21, at: p };
     }
-    let need = body_length(file);
-    if room < need {
-        return Check::Refused {
-            number: 16,
-            at: need,
-        };
-    }
-    Check::Sound
+    check_room(room, body_length(file))
 }
 
 // A sheet's body at the front of the buffer, a group, or the refusal.

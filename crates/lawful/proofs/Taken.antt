@@ -5,15 +5,14 @@ use mathlib.Core.List.{List, []}
 use mathlib.Core.Option.{Option, none, some}
 use Prim.Native.Nat.{ℕ, _≤_}
 use native.Mathlib.Omega.{arith}
-use borrow.Author.Tests.{le-ltb}
 use Rattle.model.specs.Lowest.{when, isSome, andThen, getOr}
 use Rattle.model.specs.Book.{Book, Grid, SheetOf, Lawful}
 use Rattle.dayfile.specs.Layout.{bookOf, sheetOf, entryOf, gridAt, start, seatsIn, windowsIn}
-use Rattle.dayfile.specs.Table.{firstOf, line13, line16, readLines, markerLines, sheetLines, bufferLines, markLines}
+use Rattle.dayfile.specs.Table.{firstOf, line13, readLines, markerLines, sheetLines, bufferLines, markLines}
 use Rattle.dayfile.specs.Table.{movesRoom}
 use Rattle.dayfile.specs.Outcome.{answer, readFile, NoneHolds}
 use Rattle.dayfile.proofs.Answers.{answered}
-use Rattle.dayfile.proofs.Lines.{none-holds, none-first-of, on-after}
+use Rattle.dayfile.proofs.Lines.{none-holds, none-first-of, on-after, room-enough}
 use Rattle.dayfile.specs.Layout.{markedSheet}
 use Rattle.lawful.proofs.Accepted.{entry-sheet, lawful-lines}
 
@@ -50,10 +49,6 @@ module _ (f : List ℕ) (b : Book) (s : Grid) (read : readFile f ≡ answer (b, 
         let lines = lawful-lines f (entry .0) (entry .1) (rw (book-is, sheet-in) lawful) in
         (ap (λ (o : Option ℕ). when (not (isSome o)) 0) (entry .1), (lines .0, (lines .1, tt)))
 
-    buffer-free : (room : ℕ) → movesRoom ≤ room → NoneHolds (bufferLines room movesRoom)
-    unfolding bufferLines line16
-    buffer-free room long = (ap (λ t. when t movesRoom) (le-ltb room movesRoom long), tt)
-
     pub sheet-free : firstOf (sheetLines f) ≡ none
     unfolding sheetLines
     sheet-free = on-after (readLines f) (markerLines f) (says .0) ∙ none-first-of (markerLines f) marker-free
@@ -62,5 +57,4 @@ module _ (f : List ℕ) (b : Book) (s : Grid) (read : readFile f ≡ answer (b, 
     unfolding markLines
     none-hold room long =
         none-holds (markLines f room)
-        (on-after (sheetLines f) (bufferLines room movesRoom) sheet-free
-        ∙ none-first-of (bufferLines room movesRoom) (buffer-free room long))
+        (on-after (sheetLines f) (bufferLines room movesRoom) sheet-free ∙ room-enough room movesRoom long)

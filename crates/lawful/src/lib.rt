@@ -1,10 +1,11 @@
 // Whether a file holds a lawful sheet: all the lines that the marker checks in a row.
 ghost use mathlib.Core.Path.{_≡_};
-ghost use Rattle.dayfile.specs.Table.{firstOf, sheetLines, bufferLines, markLines, movesRoom};
+ghost use Rattle.dayfile.specs.Table.{firstOf, sheetLines, markLines};
 ghost use Rattle.dayfile.specs.Memory.{refused, Reads};
 use cells::check_sheet;
 use dayfile::Check;
 use dayfile::Reading;
+use dayfile::check_room;
 use memory::is_lawful;
 
 mod memory;
@@ -27,19 +28,6 @@ pub fn check_lawful(file: &[u8], reading: Reading) -> Check
     check_sheet(file)
 }
 
-// Line 16, of a buffer of `room` bytes.
-fn check_room(room: usize) -> Check
-    ensures { λ r. ⌜ refused r ≡ firstOf (bufferLines room movesRoom) ⌝ }
-{
-    if room < MOVES_ROOM {
-        return Check::Refused {
-            number: 16,
-            at: MOVES_ROOM,
-        };
-    }
-    Check::Sound
-}
-
 // The marker's lines, of a file that was read and a buffer of `room` bytes.
 pub fn check_file(file: &[u8], reading: Reading, room: usize) -> Check
     requires { ⌜ Reads (now file) reading ⌝ }
@@ -48,5 +36,5 @@ pub fn check_file(file: &[u8], reading: Reading, room: usize) -> Check
     if let Check::Refused { number, at } = check_lawful(file, reading) {
         return Check::Refused { number, at };
     }
-    check_room(room)
+    check_room(room, MOVES_ROOM)
 }

@@ -5,20 +5,19 @@ use mathlib.Core.Option.{none}
 use Prim.Native.Nat.{ℕ, _≤_, _<_}
 use native.Mathlib.Omega.{arith}
 use lib.ListN.{length}
-use borrow.Author.Tests.{lt-ltb, le-ltb}
 use Rattle.fairness.specs.Exchange.{Move}
 use Rattle.model.specs.Search.{Found}
 use Rattle.model.specs.Marks.{Mark, wasteful, improvable, tied, settled, Result, markOf, resultOf, moveBytes}
 use Rattle.model.proofs.Marks.{within-book}
 use Rattle.dayfile.specs.Bounds.{Fit}
 use Rattle.dayfile.specs.Layout.{bookOf}
-use Rattle.dayfile.specs.Table.{refuse, firstOf, line16, readLines, markerLines, sheetLines, bufferLines, markLines, movesRoom}
+use Rattle.dayfile.specs.Table.{refuse, firstOf, readLines, markerLines, sheetLines, bufferLines, markLines, movesRoom}
 use Rattle.dayfile.specs.Outcome.{Outcome, turnedAway, answer}
 use Rattle.dayfile.specs.Memory.{front, cellsIn, dayBook, Reads}
 use Rattle.dayfile.specs.declared.Reading.{Reading}
 use Rattle.dayfile.specs.declared.Written as Written
 use Rattle.dayfile.proofs.Answers.{answered, defined-refusal, defined-answer}
-use Rattle.dayfile.proofs.Lines.{none-parts}
+use Rattle.dayfile.proofs.Lines.{none-parts, room-short, room-enough}
 use Rattle.dayfile.proofs.Sound.{sound}
 use Rattle.dayfile.proofs.Accepted.{fits}
 use Rattle.sheet.specs.Sheets.{gridOf}
@@ -35,13 +34,11 @@ use Rattle.listing.specs.Calls.{MovesOf, Listed, Lists}
 
 pub refused-short : (file before : List ℕ) → length before < listingMax →
     Lists file before before (Written.the-variants.Refused 16 listingMax)
-unfolding bufferLines line16
-refused-short file before l = defined-refusal (refuse 16 listingMax) (rw (lt-ltb (length before) listingMax l) refl) refl refl
+refused-short file before l = defined-refusal (refuse 16 listingMax) (room-short (length before) listingMax l) refl refl
 
 pub long-enough : (file before after : List ℕ) (n : ℕ) → listingMax ≤ length before → Listed file before after n →
     Lists file before after (Written.the-variants.Whole n)
-unfolding bufferLines line16
-long-enough file before after n l h = defined-answer n (rw (le-ltb (length before) listingMax l) refl) refl h
+long-enough file before after n l h = defined-answer n (room-enough (length before) listingMax l) refl h
 
 -- ---- the text
 

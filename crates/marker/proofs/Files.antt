@@ -4,18 +4,15 @@ use mathlib.Core.List.{List}
 use mathlib.Core.Option.{none, some}
 use Prim.Native.Nat.{ℕ, _≤_}
 use lib.ListN.{length}
-use lib.Dec.{ltb}
-use borrow.Author.Tests.{ltb-false}
 use Rattle.model.specs.Book.{Grid}
 use Rattle.model.specs.Marks.{markOf, resultOf}
 use Rattle.dayfile.specs.Layout.{bookOf}
-use Rattle.dayfile.specs.Table.{refuse, firstOf, sheetLines, bufferLines, markLines, movesRoom, line16}
+use Rattle.dayfile.specs.Table.{refuse, firstOf, sheetLines, bufferLines, markLines, movesRoom}
 use Rattle.dayfile.specs.Memory.{bookIn, cellsIn, Reads}
 use Rattle.dayfile.specs.declared.Book as Memory
 use Rattle.dayfile.specs.declared.Reading.{Reading}
 use Rattle.dayfile.proofs.Answers.{defined-refusal, defined-answer}
-use Rattle.dayfile.proofs.Lines.{none-holds, none-parts}
-use Rattle.dayfile.proofs.Tests.{when-none}
+use Rattle.dayfile.proofs.Lines.{none-parts, room-none}
 use Rattle.sheet.specs.Sheets.{gridOf}
 use Rattle.answers.specs.declared.Marking.{Marking}
 use Rattle.answers.specs.declared.Marking.the-variants.{Refused}
@@ -36,10 +33,7 @@ module _ (f before : List ℕ) (passed : firstOf (markLines f (length before)) �
   parts = none-parts (sheetLines f) (bufferLines (length before) movesRoom) passed
 
   pub has-room : movesRoom ≤ length before
-  unfolding bufferLines line16
-  has-room =
-      let e = none-holds (bufferLines (length before) movesRoom) (parts .1) in
-      ltb-false (length before) movesRoom (when-none (ltb (length before) movesRoom) movesRoom (e .0))
+  has-room = room-none (length before) movesRoom (parts .1)
 
   module _ (r : Reading) (reads : Reads f r) (caps sheet : Grid) (caps-are : caps ≡ gridOf (r .day .caps))
       (sheet-are : sheet ≡ gridOf (r .day .sheet)) where

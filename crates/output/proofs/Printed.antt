@@ -4,13 +4,12 @@ use mathlib.Core.List.{List}
 use Prim.Native.Nat.{ℕ, _≤_}
 use native.Mathlib.Omega.{arith}
 use lib.ListN.{length, drop, length-append}
-use borrow.Author.Tests.{le-ltb}
 use Rattle.dayfile.specs.declared.Written.{Written}
 use Rattle.dayfile.specs.declared.Written.the-variants.{Refused, Whole}
-use Rattle.dayfile.specs.Table.{refuse, line16, bufferLines, planLines}
+use Rattle.dayfile.specs.Table.{refuse, planLines}
 use Rattle.dayfile.specs.Outcome.{answer}
 use Rattle.dayfile.specs.Memory.{front}
-use Rattle.dayfile.proofs.Lines.{none-holds}
+use Rattle.dayfile.proofs.Lines.{none-holds, room-enough}
 use Rattle.dayfile.proofs.Answers.{answer-none, refusal-first}
 use Rattle.lines.specs.Lines.{refusalLine, Printed}
 use Rattle.listing.specs.Listing.{listingMax}
@@ -38,12 +37,11 @@ lists-whole file before after r n lists e =
 
 pub lists-refused : (file before after : List ℕ) (r : Written) (n p : ℕ) → Lists file before after r → r ≡ Refused n p →
     listingMax ≤ length before → ⊥
-unfolding bufferLines line16
 lists-refused file before after r n p lists e long =
     let refused : Lists file before after (Refused n p) = rw e at lists in
     let first = refusal-first refused (refuse n p) refl in
-    let fits = le-ltb (length before) listingMax long in
-    let z : _≡_ {A = ℕ} 0 1 = cc (rw fits at first) in omega arith
+    let fits = room-enough (length before) listingMax long in
+    let z : _≡_ {A = ℕ} 0 1 = cc in omega arith
 
 -- ---- plan
 

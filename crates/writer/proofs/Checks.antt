@@ -9,7 +9,7 @@ use native.Mathlib.Decide.{decLe}
 use native.Mathlib.Omega.{arith}
 use lib.Dec.{leb, eqb}
 use lib.ListN.{length, getD}
-use borrow.Author.Tests.{le-leb, lt-leb, eq-eqb, lt-ltb, le-ltb}
+use borrow.Author.Tests.{le-leb, lt-leb, eq-eqb}
 use Rattle.model.specs.Lowest.{lowest, when, orElse, andThen}
 use Rattle.model.specs.Book.{Grid, seats, windows}
 use Rattle.sheet.specs.Sheets.{gridOf}
@@ -17,14 +17,14 @@ use Rattle.sheet.specs.declared.Sheet.{Sheet}
 use Rattle.dayfile.specs.Layout.{field, entriesIn, contentsEnd, start, size, sizeAt, seatsIn, windowsIn, entryOf}
 use Rattle.dayfile.specs.File.{Part, assemble, flat, flatIf, oneIf, partsOf, fileOf}
 use Rattle.dayfile.specs.Table.{Line, Refusal, line, refuse, firstOf, within, offset, sizeRight, numberRight, wrongField, outside}
-use Rattle.dayfile.specs.Table.{wrongFields, line7, line8, line10, line11, line12, line16, line18, line19, line20}
+use Rattle.dayfile.specs.Table.{wrongFields, line7, line8, line10, line11, line12, line18, line19, line20}
 use Rattle.dayfile.specs.Table.{valueLines, optionLines, bufferLines, writeLines}
 use Rattle.dayfile.specs.Memory.{sized, sizedGrid, bookIn, sheetIn, fileWith, fileIn, front, Writes}
 use Rattle.dayfile.specs.declared.Book as Memory
 use Rattle.dayfile.specs.declared.Day.{Day}
 use Rattle.dayfile.specs.declared.Written as Written
-use Rattle.dayfile.proofs.Tests.{within-high, yes-when, no-when}
-use Rattle.dayfile.proofs.Lines.{stop, on, stop-in, on-after, none-holds, none-parts}
+use Rattle.dayfile.proofs.Tests.{within-high}
+use Rattle.dayfile.proofs.Lines.{on, stop-in, on-after, none-holds, none-parts, room-short, room-enough}
 use Rattle.dayfile.proofs.Answers.{writes-refused, writes-whole}
 use Rattle.dayfile.proofs.Search.{wrong-same}
 use Rattle.dayfile.proofs.Tables.{sized-length, sized-one}
@@ -395,19 +395,12 @@ module _ (d : Day) where
   -- 16 holds
   pub no-room : (buf : List ℕ) {k : ℕ} → firstOf linesOf ≡ none → k ≡ length (fileIn d) → length buf < k
       → Answer buf buf (Written.the-variants.Refused 16 k)
-  unfolding bufferLines line16
   no-room buf {k} e q h =
-      let n : ℕ = length whole in
       writes-refused (writeLines whole) whole buf 16 k
-      (late (length buf) e
-      ∙ sym (stop 16 none (sym (yes-when n (lt-ltb (length buf) n (omega arith)))))
-      ∙ ap (λ (x : ℕ). some (refuse 16 x)) (sym q))
+      (late (length buf) e ∙ room-short (length buf) (length whole) (omega arith) ∙ ap (λ (x : ℕ). some (refuse 16 x)) (sym q))
 
   -- no line holds
   pub enough : (buf end : List ℕ) {k : ℕ} → firstOf linesOf ≡ none → k ≡ length (fileIn d) → k ≤ length buf
       → end ≡ front (fileIn d) buf → Answer buf end (Written.the-variants.Whole k)
-  unfolding bufferLines line16
   enough buf end {k} e q h f =
-      let n : ℕ = length whole in
-      writes-whole (writeLines whole) whole buf end k
-      (late (length buf) e ∙ sym (on 16 (sym (no-when n (le-ltb (length buf) n (omega arith)))) refl)) q f
+      writes-whole (writeLines whole) whole buf end k (late (length buf) e ∙ room-enough (length buf) (length whole) (omega arith)) q f
