@@ -7,7 +7,7 @@ use Prim.Native.Nat.{ℕ}
 use lib.ListN.{take}
 use Rattle.fairness.specs.Leximin.{table}
 use Rattle.model.specs.Lowest.{lowest}
-use Rattle.model.specs.Book.{Book, Grid, withFirst, withBalances, withWeights, isIdle}
+use Rattle.model.specs.Book.{Book, Grid, withFirst, withBalances, withWeights, allZero, isIdle}
 use Rattle.dayfile.specs.Layout.{field, entryOf, ends, fieldsAt, gridAt, firstIn, balancesIn, weightsIn, bookOf, sheetOf}
 use Rattle.dayfile.specs.File.{bytesOf, contents, bodies, fieldsOf, assemble, flat, optPart, optParts, partsOf, fileOf}
 use Rattle.dayfile.specs.Table.{refuse, kindRight, sizeRight, gridRight, wrongField}
@@ -203,16 +203,29 @@ unfolding readFile readLines contentsLines lengthLines valueLines optionLines
     line1 line2 line3 line4 line5 line6 line7 line8 line9 line10 line11 line12
     line18 line19 line20 wrongFields lowest kindRight sizeRight gridRight wrongField field ends entryOf
     firstIn balancesIn weightsIn bookOf sheetOf fieldsAt gridAt table
-    idleLines line22 isIdle planLines bufferLines line16 plannedLength
+    idleLines line22 isIdle allZero planLines
 idle-told = (refl, refl, refl, refl, refl)
 
--- K11, which has none: nothing but 16 keeps it from being planned
+-- one seat and three windows of 4 credits, with a cap of 256 in the last window alone: 34 bytes
+abbrev lastCap : List ℕ
+lastCap =
+    0x03 ∷ 0x00
+    ∷ 0x01 ∷ 0x00 ∷ 0x14 ∷ 0x00 ∷ 0x02 ∷ 0x00
+    ∷ 0x02 ∷ 0x00 ∷ 0x16 ∷ 0x00 ∷ 0x06 ∷ 0x00
+    ∷ 0x03 ∷ 0x00 ∷ 0x1C ∷ 0x00 ∷ 0x06 ∷ 0x00
+    ∷ 0x01 ∷ 0x00 ∷ 0x04 ∷ 0x00 ∷ 0x04 ∷ 0x00 ∷ 0x04 ∷ 0x00
+    ∷ 0x00 ∷ 0x00 ∷ 0x00 ∷ 0x00 ∷ 0x00 ∷ 0x01 ∷ []
+
+-- it has no idle seat, and K11 has none: nothing but 16 keeps K11 from being planned
 pub none-idle-told :
-    (firstOf (forecastLines k11) ≡ none) × (firstOf (planLines k11 33) ≡ some (refuse 16 34)) × (firstOf (planLines k11 34) ≡ none)
-unfolding readFile readLines contentsLines lengthLines valueLines optionLines
+    (firstOf (forecastLines lastCap) ≡ none)
+    × (firstOf (forecastLines k11) ≡ none)
+    × (firstOf (planLines k11 33) ≡ some (refuse 16 34))
+    × (firstOf (planLines k11 34) ≡ none)
+unfolding readLines contentsLines lengthLines valueLines optionLines
     line1 line2 line3 line4 line5 line6 line7 line8 line9 line10 line11 line12
     line18 line19 line20 wrongFields lowest kindRight sizeRight gridRight wrongField field ends entryOf
-    firstIn balancesIn weightsIn bookOf sheetOf fieldsAt gridAt table
-    idleLines line22 isIdle planLines bufferLines line16 plannedLength
+    firstIn balancesIn weightsIn bookOf fieldsAt gridAt table
+    idleLines line22 isIdle allZero planLines bufferLines line16 plannedLength
     fileOf partsOf optParts optPart flat assemble fieldsOf contents bodies bytesOf
-none-idle-told = (refl, refl, refl)
+none-idle-told = (refl, refl, refl, refl)

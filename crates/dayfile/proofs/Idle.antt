@@ -60,21 +60,21 @@ module _ (f : List ℕ) where
 
 module _ (f : List ℕ) where
   pub read-not-22 : numbered 22 (readLines f) ≡ false
-  unfolding readLines contentsLines lengthLines valueLines optionLines
+  unfolding readLines contentsLines lengthLines valueLines optionLines idleLines
   read-not-22 = refl
 
   pub write-not-22 : (room : ℕ) → numbered 22 (writeLines f room) ≡ false
-  unfolding writeLines valueLines optionLines bufferLines
+  unfolding writeLines valueLines optionLines bufferLines idleLines
   write-not-22 room = refl
 
   pub mark-not-22 : (room : ℕ) → numbered 22 (markLines f room) ≡ false
-  unfolding markLines sheetLines readLines contentsLines lengthLines valueLines optionLines markerLines bufferLines
+  unfolding markLines sheetLines readLines contentsLines lengthLines valueLines optionLines markerLines bufferLines idleLines
   mark-not-22 room = refl
 
   pub better-not-22 : (g : List ℕ) → numbered 22 (betterLines f g) ≡ false
-  unfolding betterLines sheetLines readLines contentsLines lengthLines valueLines optionLines markerLines pairLines
+  unfolding betterLines sheetLines readLines contentsLines lengthLines valueLines optionLines markerLines pairLines idleLines
   better-not-22 g = refl
 
   pub fulfil-not-22 : (row : List ℕ) (room : ℕ) → numbered 22 (fulfilLines f row room) ≡ false
-  unfolding fulfilLines readLines contentsLines lengthLines valueLines optionLines rowLines bufferLines
+  unfolding fulfilLines readLines contentsLines lengthLines valueLines optionLines rowLines bufferLines idleLines
   fulfil-not-22 row room = refl

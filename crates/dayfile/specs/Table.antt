@@ -148,7 +148,7 @@ line20 f = andThen (entryOf f 7) (wrongFields f 8 1 1000 true)
 unfoldable pub line13 : List ℕ → Option ℕ
 line13 f = when (not (isSome (entryOf f 4))) 0
 
--- the sheet's cells count in the file's order; the cap of a cell has the same number
+-- where a number of an entry's body stands; the sheet's cells count in the file's order, and the cap of a cell has the same number
 abbrev pub cellAt : List ℕ → ℕ → ℕ → ℕ
 cellAt f e i = start f e + 2 * i
 

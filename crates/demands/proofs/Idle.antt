@@ -87,7 +87,7 @@ module _ (file : List ℕ) (b : Book) (i : ℕ) (w : WithIdle file b i) where
 
   first : firstOf (forecastLines file) ≡ some (refuse 22 (start file 0 + 2 * i))
   first =
-      let h : LowestIdle (bookOf file) i = subst (λ (x : Book). LowestIdle x i) (sym same) (w .lowest) in
+      let h : LowestIdle (bookOf file) i = subst (λ (x : Book). LowestIdle x i) (sym same) (w .seat) in
       forecast-idle file (says file b (w .sheet) (w .accepted) .0) i (h .of-book) (h .idle) (h .lowest)
 
   pub not-planned : (before after : List ℕ) (r : Written) → Plans file before after r →
@@ -101,7 +101,7 @@ module _ (file : List ℕ) (b : Book) (i : ℕ) (w : WithIdle file b i) where
   pub class-there : getD (b .classes) i 0 ≡ field file (start file 0 + 2 * i)
   unfolding bookOf
   class-there =
-      let below : i < seats (bookOf file) = subst (λ (x : Book). i < seats x) (sym same) (w .lowest .of-book) in
+      let below : i < seats (bookOf file) = subst (λ (x : Book). i < seats x) (sym same) (w .seat .of-book) in
       ap (λ (x : Book). getD (x .classes) i 0) (sym same)
       ∙ fields-at file (start file 0) _ i (subst (λ (n : ℕ). i < n) (seats-are file) below)
 

@@ -110,8 +110,8 @@ pub record Demand2 : Type 0 where
       (w ≡ Whole (length file)) × (after ≡ front file before)
 
 -- ---- Demand 3: the marker passes a lawful sheet exactly when its sorted list of levels equals the highest of all lawful sheets; the
--- planner's sheet always passes, and since paper 02, E9, every book without an idle seat has one; the chain of a failing sheet, played move
--- by move, is possible at every turn and ends in a lawful sheet with a higher list.
+-- planner's sheet always passes, and (paper 02, E9) every accepted book without an idle seat is planned, given a buffer that is long enough;
+-- the chain of a failing sheet, played move by move, is possible at every turn and ends in a lawful sheet with a higher list.
 
 -- an accepted file with a lawful sheet, and what the marker answers with a buffer that is long enough
 pub record Marked (file : List ℕ) (b : Book) (s : Grid) (before after : List ℕ) (r : Marking) : Type 0 where
@@ -267,7 +267,7 @@ pub record LowestIdle (b : Book) (i : ℕ) : Type 0 where
 pub record WithIdle (file : List ℕ) (b : Book) (i : ℕ) : Type 0 where
   pub sheet : Option Grid
   pub accepted : readFile file ≡ answer (b, sheet)
-  pub lowest : LowestIdle b i
+  pub seat : LowestIdle b i
 
 pub record IdleSeats : Type 0 where
   -- every book has a lowest idle seat, or none is idle
@@ -285,7 +285,7 @@ pub record IdleSeats : Type 0 where
   -- of an accepted book that has none both figures are told (for the planner see demand 3)
   pub forecasts : (file : List ℕ) (b : Book) (s : Option Grid) → readFile file ≡ answer (b, s) → NoneIdle b →
       (r : Foretold) → Forecasts file r → foretold r ≡ answer (figuresOf b)
-  -- and no other call says 22: files with an idle seat are read, written, marked, listed, compared and given wanted totals as before
+  -- and no other call says 22, so it keeps no file from being read, written, marked, listed, compared or given wanted totals
   pub read : (file : List ℕ) (r : Reading) (p : ℕ) → Reads file r → reading r ≡ turnedAway (refuse 22 p) → ⊥
   pub write : (d : Day) (before after : List ℕ) (r : Written) (p : ℕ) → WritesDay d before after r →
       written r ≡ turnedAway (refuse 22 p) → ⊥

@@ -1,13 +1,14 @@
 -- What was found in memory is what line 22 says of the file. Assumes nothing.
 use mathlib.Core.Path.{_≡_, refl, sym, ap, _∙_}
 use mathlib.Core.Bool.{Bool, not}
-use mathlib.Core.List.{List}
+use mathlib.Core.List.{List, []}
 use mathlib.Core.Option.{Option, none, some}
 use Prim.Native.Nat.{ℕ, _+_, _*_, _<_}
 use native.Mathlib.Omega.{arith}
 use lib.Dec.{eqb}
+use lib.ListN.{getD}
 use Rattle.model.specs.Lowest.{lowest, isSome}
-use Rattle.model.specs.Book.{Book, Grid, cell, seats, isIdle}
+use Rattle.model.specs.Book.{Book, Grid, cell, seats, allZero, isIdle}
 use Rattle.model.proofs.Lowest.{lowest-some}
 use Rattle.dayfile.specs.declared.Book as Memory
 use Rattle.dayfile.specs.Bounds.{Fit}
@@ -20,11 +21,11 @@ use Rattle.dayfile.proofs.Used.{cap-in, range-in}
 
 -- the test of a row of caps
 abbrev pub zero : Grid → ℕ → ℕ → Bool
-zero caps windows i = not (isSome (lowest windows (λ j. not (eqb (cell caps i j) 0))))
+zero caps windows i = allZero windows (getD caps i [])
 
 -- of a book in memory it tells idle seats
 zero-idle : (m : Memory.Book) (caps : Grid) (i : ℕ) → i < m .seats → zero caps (m .windows) i ≡ isIdle (bookIn m caps) i
-unfolding isIdle
+unfolding allZero isIdle
 zero-idle m caps i li =
     ap (λ (o : Option ℕ). not (isSome o))
     (same-search _ _ (m .windows) (λ j lj. ap (λ (x : ℕ). not (eqb x 0)) (sym (cap-in m caps i j li lj)))

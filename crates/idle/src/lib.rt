@@ -1,11 +1,10 @@
 // Idle seats, whose caps are all zero: line 22, of the planner and the forecast alone.
 ghost use mathlib.Core.Path.{_≡_};
-ghost use mathlib.Core.Bool.{not};
+ghost use mathlib.Core.List.{[]};
 ghost use Prim.Native.Nat.{_≤_};
-ghost use lib.Dec.{eqb};
 ghost use lib.ListN.{getD};
-ghost use Rattle.model.specs.Lowest.{lowest, isSome};
-ghost use Rattle.model.specs.Book.{cell};
+ghost use Rattle.model.specs.Lowest.{lowest};
+ghost use Rattle.model.specs.Book.{allZero};
 ghost use Rattle.dayfile.specs.Bounds.{Fit};
 ghost use Rattle.dayfile.specs.Layout.{bookOf};
 ghost use Rattle.dayfile.specs.Table.{firstOf, idleLines};
@@ -19,7 +18,7 @@ use sheet::Caps;
 // Whether the first caps of a row are all zero.
 fn all_zero(row: &[u16; 24], windows: usize) -> bool
     requires { ⌜ windows ≤ 24 ⌝ }
-    ensures { λ r. ⌜ r ≡ not (isSome (lowest windows (λ j. not (eqb (getD (now (row .entry)) j 0) 0)))) ⌝ }
+    ensures { λ r. ⌜ r ≡ allZero windows (now (row .entry)) ⌝ }
 {
     for w in 0..windows {
         if row[w] != 0 {
@@ -32,7 +31,7 @@ fn all_zero(row: &[u16; 24], windows: usize) -> bool
 // The lowest of the first rows whose first caps are all zero.
 fn idle_seat(caps: &Caps, seats: usize, windows: usize) -> Found
     requires { ⌜ (seats ≤ 32) × (windows ≤ 24) ⌝ }
-    ensures { λ r. ⌜ found r ≡ lowest seats (λ i. not (isSome (lowest windows (λ j. not (eqb (cell (now (caps .entry)) i j) 0))))) ⌝ }
+    ensures { λ r. ⌜ found r ≡ lowest seats (λ i. allZero windows (getD (now (caps .entry)) i [])) ⌝ }
 {
     for i in 0..seats {
         if all_zero(&caps[i], windows) {

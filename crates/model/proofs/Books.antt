@@ -10,7 +10,7 @@ use lib.ListN.{length, getD}
 use borrow.Author.Tests.{eqb-true, eq-eqb, ltb-false, le-ltb, not-true, not-false}
 use Rattle.fairness.specs.Instance.{placed}
 use Rattle.model.specs.Lowest.{lowest, isSome}
-use Rattle.model.specs.Book.{Book, Grid, cell, seats, windows, instanceOf, SheetOf, Lawful, Idle, NoneIdle, isSheet, isLawful, isIdle}
+use Rattle.model.specs.Book.{Book, Grid, cell, seats, windows, instanceOf, SheetOf, Lawful, Idle, NoneIdle, isSheet, isLawful, allZero, isIdle}
 use Rattle.model.proofs.Tests.{and-true, true-not-false}
 use Rattle.model.proofs.Tests as tests
 use Rattle.model.proofs.Lowest.{Fails, lowest-none, lowest-fails}
@@ -75,7 +75,7 @@ lawful-test b s = (to, from)
         )
 
 pub idle-test : (b : Book) (i : ℕ) → (isIdle b i ≡ true) ↔ Idle b i
-unfolding isIdle
+unfolding allZero isIdle
 idle-test b i = (
   λ e j lj. eqb-true _ _ (not-false _ (none-passes (windows b) used .0 e j lj)),
   λ h. none-passes (windows b) used .1 (λ j lj. ap not (eq-eqb _ _ (h j lj))),

@@ -9,7 +9,7 @@ use Rattle.fairness.specs.Sums.{sum}
 use Rattle.fairness.specs.Leximin.{table}
 use Rattle.fairness.specs.Exchange.{All, improves, tiesWrongly, improvesAt, tiesAt}
 use Rattle.model.specs.Lowest.{lowest, isSome}
-use Rattle.model.specs.Book.{seats, placeFrom, weightIn, instanceOf, isSheet, isLawful, isIdle, totals}
+use Rattle.model.specs.Book.{seats, placeFrom, weightIn, instanceOf, isSheet, isLawful, allZero, isIdle, totals}
 use Rattle.model.specs.Search.{member, any, filter, canTake, grow, layer, reached, fewest, donorOf, firstReceiver, search}
 use Rattle.model.specs.Marks.{seatBelow, wastedWindow, markOf, resultOf}
 use Rattle.model.specs.Examples.{Example, Holds, examples}
@@ -69,7 +69,7 @@ all-hold (e ∷ es) h = let both = and-true _ _ .0 h in (holds-true e (both .0),
 
 -- the marks, numbers of moves and totals of K1 to K10 and K12 are those that paper 01 gives; those behind them follow from paper 02
 pub starred-examples-hold : All Holds examples
-unfolding sameList holds allHold isSheet isLawful isIdle totals placeFrom weightIn instanceOf lowest sum table
+unfolding sameList holds allHold isSheet isLawful allZero isIdle totals placeFrom weightIn instanceOf lowest sum table
     markOf wastedWindow seatBelow search firstReceiver donorOf fewest reached layer grow canTake filter any member
     improvesAt improves tiesAt tiesWrongly
 starred-examples-hold = all-hold examples refl

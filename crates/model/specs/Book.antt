@@ -127,8 +127,12 @@ isLawful b s =
     not (isSome (lowest (seats b) (λ i. isSome (lowest (windows b) (λ j. ltb (cell (b .caps) i j) (cell s i j))))))
     && not (isSome (lowest (windows b) (λ j. ltb (getD (b .supplies) j 0) (placed (instanceOf b) (cell s) j))))
 
+-- the first n numbers of a row are all zero
+unfoldable pub allZero : ℕ → List ℕ → Bool
+allZero n row = not (isSome (lowest n (λ j. not (eqb (getD row j 0) 0))))
+
 unfoldable pub isIdle : Book → ℕ → Bool
-isIdle b i = not (isSome (lowest (windows b) (λ j. not (eqb (cell (b .caps) i j) 0))))
+isIdle b i = allZero (windows b) (getD (b .caps) i [])
 
 -- each seat's total
 unfoldable pub totals : Book → Grid → List ℕ

@@ -9,6 +9,7 @@ use lib.Dec.{eqb}
 use lib.ListN.{getD}
 use borrow.Author.Tests.{eq-eqb, ne-eqb}
 use Rattle.model.specs.Lowest.{isSome}
+use Rattle.model.specs.Book.{allZero}
 use Rattle.dayfile.proofs.Search.{Searching, search-first, search-on, search-hit, search-end}
 use Rattle.idle.proofs.all_zero.Statement.{statement}
 use Rattle.idle.proofs.all_zero.Tie as tie
@@ -26,6 +27,7 @@ loop-holds : tie.Need-loop-holds Inv-loop μ-loop
 loop-holds c = search-first refl
 
 returns : tie.Need-returns Inv-loop μ-loop
+unfolding allZero
 returns c =
     let l = c .before .before in
     ap (λ (o : Option ℕ). not (isSome o)) (search-hit (l .before .loop .inv) (l .loop-test .taken) (ap not (ne-eqb _ _ (c .if1 .taken))))
@@ -36,6 +38,7 @@ loop-again c =
     search-on (l .before .loop .inv) (l .loop-test .taken) (ap not (eq-eqb _ _ (c .if1 .left)))
 
 returns-2 : tie.Need-returns-2 Inv-loop μ-loop
+unfolding allZero
 returns-2 c = ap (λ (o : Option ℕ). not (isSome o)) (search-end (c .before .loop .inv) (c .loop-test .left))
 
 pub all-zero-spec : {M : Type 1} → statement M
