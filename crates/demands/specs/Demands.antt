@@ -110,8 +110,8 @@ pub record Demand2 : Type 0 where
       (w ≡ Whole (length file)) × (after ≡ front file before)
 
 -- ---- Demand 3: the marker passes a lawful sheet exactly when its sorted list of levels equals the highest of all lawful sheets; the
--- planner's sheet always passes, and (paper 02, E9) every accepted book without an idle seat is planned, given a buffer that is long enough;
--- the chain of a failing sheet, played move by move, is possible at every turn and ends in a lawful sheet with a higher list.
+-- planner's sheet always passes, and (paper 02, E9) every accepted book without an idle seat is planned, given a buffer that is long
+-- enough; the chain of a failing sheet, played move by move, is possible at every turn and ends in a lawful sheet with a higher list.
 
 -- an accepted file with a lawful sheet, and what the marker answers with a buffer that is long enough
 pub record Marked (file : List ℕ) (b : Book) (s : Grid) (before after : List ℕ) (r : Marking) : Type 0 where

@@ -10,7 +10,8 @@ use lib.ListN.{length, getD}
 use borrow.Author.Tests.{eqb-true, eq-eqb, ltb-false, le-ltb, not-true, not-false}
 use Rattle.fairness.specs.Instance.{placed}
 use Rattle.model.specs.Lowest.{lowest, isSome}
-use Rattle.model.specs.Book.{Book, Grid, cell, seats, windows, instanceOf, SheetOf, Lawful, Idle, NoneIdle, isSheet, isLawful, allZero, isIdle}
+use Rattle.model.specs.Book.{Book, Grid, cell, seats, windows, instanceOf, SheetOf, Lawful, Idle, NoneIdle}
+use Rattle.model.specs.Book.{isSheet, isLawful, allZero, isIdle}
 use Rattle.model.proofs.Tests.{and-true, true-not-false}
 use Rattle.model.proofs.Tests as tests
 use Rattle.model.proofs.Lowest.{Fails, lowest-none, lowest-fails}

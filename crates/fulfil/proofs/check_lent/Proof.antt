@@ -16,4 +16,5 @@ returns-2 c =
 
 pub check-lent-spec : {M : Type 1} → statement M
 check-lent-spec =
-    tie.close (tie.spec (λ c κs. search needs) (λ c. search needs) returns (λ c. search needs) (λ c κs. search needs) (λ c κs. search needs) returns-2)
+    tie.close (tie.spec (λ c κs. search needs) (λ c. search needs) returns (λ c. search needs) (λ c κs. search needs)
+    (λ c κs. search needs) returns-2)
