@@ -1,4 +1,6 @@
 // What the calls answer, in numbers. What crosses to C: #[repr(C)] structs of numbers, laid out as include/credits.h says.
+#![tactic(auto)]
+
 ghost use Rattle.std.specs.Prelude.{◌≡◌};
 ghost use Rattle.dayfile.specs.Outcome.{answer};
 ghost use Rattle.answers.specs.Answers.{told, numbers_of};

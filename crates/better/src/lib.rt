@@ -1,4 +1,6 @@
 // The better of two hand-ins: of two files with a lawful sheet of one book, the sheet body of the one whose list is higher.
+#![tactic(auto)]
+
 ghost use Rattle.std.specs.Prelude.{◌≡◌};
 ghost use Rattle.std.proofs.Math.Option.{none};
 ghost use Rattle.model.specs.Fair.{profile_of};

@@ -1,4 +1,6 @@
 // The cells of a file's sheet against its caps and supplies: the table's lines 13 to 15.
+#![tactic(auto)]
+
 ghost use Rattle.std.specs.Prelude.{◌≡◌, ◌<◌};
 ghost use Rattle.dayfile.specs.Table.{line13, line14, line15, placed_in, first_of, marker_lines};
 ghost use Rattle.dayfile.specs.Memory.{found, refused};

@@ -1,4 +1,6 @@
 // What the better of two answers, and what of it crosses to C: a #[repr(C)] struct of numbers, laid out as include/credits.h says.
+#![tactic(auto)]
+
 ghost use Rattle.std.specs.Prelude.{◌≡◌};
 ghost use Rattle.choice.specs.Numbers.{better_numbers};
 

@@ -1,5 +1,7 @@
 // From a settled grid to the standard one of the same book, cell by cell in the order in which cells are read. Cycles of moves raise a cell
 // by one credit each, until there is none. They leave the cells before it as they are, so no cell is looked at again.
+#![tactic(auto)]
+
 ghost use Rattle.std.specs.Prelude.{◌≡◌, false, ℕ, ◌+◌, ◌≤◌, ◌<◌, get_or};
 ghost use Rattle.fairness.specs.Exchange.{Settled};
 ghost use Rattle.fairness.specs.Standard.{Standard};

@@ -1,5 +1,7 @@
 // The library for C, Rust and Python: every public call, exported, in the order of include/credits.h. What crosses is numbers, slices and
 // structs of numbers. The contracts are in specs/Calls.antt.
+#![tactic(auto)]
+
 ghost use Rattle.credits.specs.Calls.{ReadsAs, WritesAs, MarksAs, PlansAs, ListsAs, BettersAs, FulfilsAs, ForecastsAs};
 
 use answers::{CreditsBook, MarkResult, ReadResult, WriteResult};

@@ -1,5 +1,7 @@
 // The day file: the types and the tests that reading and writing share. The format is defined in specs/, and its laws are in
 // proofs/Theorems.antt.
+#![tactic(auto)]
+
 ghost use Rattle.std.specs.Prelude.{◌≡◌, not, [], ◌∷◌, ◌+◌, ◌<◌};
 ghost use Rattle.model.specs.Lowest.{when, or_else};
 ghost use Rattle.sheet.specs.Sheets.{grid_of};

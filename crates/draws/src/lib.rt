@@ -1,4 +1,6 @@
 // Random numbers, the same in every run: the next is 1,664,525 times the one before plus 1,013,904,223, remainder on 2^32.
+#![tactic(auto)]
+
 ghost use Rattle.std.specs.Prelude.{◌+◌, ◌<◌, ◌≤◌};
 
 use dayfile::{Day, Written};

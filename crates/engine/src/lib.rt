@@ -1,5 +1,7 @@
 // The engine: a settled sheet of an instance in memory. Free credits are handed out, the seats are evened out in bulk, and what is left to
 // do is settled. That the end is settled, settling alone shows; nearly always it finds nothing to do.
+#![tactic(auto)]
+
 ghost use Rattle.fairness.specs.Instance.{Instance, Feasible};
 ghost use Rattle.fairness.specs.Exchange.{Settled};
 ghost use Rattle.model.specs.Book.{cell};

@@ -1,4 +1,6 @@
 // The entries of the table of contents: three tests that each of them is to pass, and the first that does not.
+#![tactic(auto)]
+
 ghost use Rattle.std.specs.Prelude.{◌≡◌, ◌+◌, ◌*◌, ◌<◌};
 ghost use Rattle.dayfile.specs.Table.{kind_right, grid_right, wrong_entry};
 ghost use Rattle.dayfile.specs.Memory.{found};

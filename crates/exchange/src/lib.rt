@@ -1,4 +1,6 @@
 // The search for exchange paths on a sheet, which the marker and settling call: scores and a graph of it, then the search on those.
+#![tactic(auto)]
+
 ghost use Rattle.std.specs.Prelude.{◌≡◌, ◌⊎◌, ◌↔◌, ℕ, ◌≤◌, ◌<◌, get_or};
 ghost use Rattle.fairness.specs.Instance.{Instance, Feasible};
 ghost use Rattle.model.specs.Book.{cell};

@@ -21,6 +21,7 @@ module _ {A : Type 0} (◌⊑◌ : A → A → Type 0) where
   Equal-sym xs ys (both {xs = xs'} {ys = ys'} p q e) = both q p (Equal-sym xs' ys' e)
 
   pub Equal-not-Higher : (xs ys : List A) → Equal ◌⊑◌ xs ys → Higher ◌⊑◌ xs ys → ⊥
+  Equal-not-Higher _ _ none h = elim h [ ]
   Equal-not-Higher xs ys (both p q e) (at h) = h q
   Equal-not-Higher xs ys (both {xs = xs'} {ys = ys'} p q e) (next r s h) = Equal-not-Higher xs' ys' e h
 
@@ -187,6 +188,8 @@ module _ {A : Type 0} (◌⊑◌ : A → A → Type 0) (⊑? : (x y : A) → Dec
         next ((same x y a.0 b.0).0 p) ((same y x b.0 a.0).0 q) (Higher-map xs' ys' a.1 b.1 h)
 
     pub Higher-unmap : (xs ys : List A) → All Good xs → All Good ys → Higher ◌≤◌ (map f xs) (map f ys) → Higher ◌⊑◌ xs ys
+    Higher-unmap [] ys a b h = elim h [ ]
+    Higher-unmap (x ∷ xs) [] a b h = elim h [ ]
     Higher-unmap (x ∷ xs) (y ∷ ys) a b (at h) = at (λ l. h ((same y x b.0 a.0).0 l))
     Higher-unmap (x ∷ xs) (y ∷ ys) a b (next p q h) =
         next ((same x y a.0 b.0).1 p) ((same y x b.0 a.0).1 q) (Higher-unmap xs ys a.1 b.1 h)

@@ -1,4 +1,6 @@
 // Weights, and the two tests of an exchange path, on numbers.
+#![tactic(auto)]
+
 ghost use Rattle.std.specs.Prelude.{◌≡◌, ◌-◌, ◌≤◌};
 ghost use Rattle.fairness.specs.Classes.{ClassWeight};
 ghost use Rattle.fairness.specs.Exchange.{improves, ties_wrongly};

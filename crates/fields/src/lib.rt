@@ -1,5 +1,7 @@
 // What a day file says in its fields, one by one and as arrays, whether it is turned away or not, and where its bodies lie. A byte past
 // the end counts as 0.
+#![tactic(auto)]
+
 ghost use Rattle.std.specs.Prelude.{◌≡◌, ◌<◌, get_or};
 ghost use Rattle.dayfile.specs.Layout.{field, count, kind, start, size, ends, entry_of, seats_in, windows_in};
 ghost use Rattle.dayfile.specs.Memory.{found, Under};

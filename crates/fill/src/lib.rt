@@ -1,4 +1,6 @@
 // Free credits handed out: window by window, seat by seat, up to the caps. Credits moved: as many as a step lets through.
+#![tactic(auto)]
+
 ghost use Rattle.std.specs.Prelude.{◌≡◌, min, ◌+◌, ◌-◌, ◌≤◌, ◌<◌};
 ghost use Rattle.fairness.specs.Sums.{sum};
 ghost use Rattle.fairness.specs.Instance.{Feasible};

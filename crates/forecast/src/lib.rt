@@ -1,4 +1,6 @@
 // What a plan of a day file will take: the length of the planned file, and the credits that will be placed in each window.
+#![tactic(auto)]
+
 ghost use Rattle.std.specs.Prelude.{◌≡◌, min, ◌≤◌, replicate};
 ghost use Rattle.dayfile.specs.Table.{refuse};
 ghost use Rattle.dayfile.specs.Outcome.{turned_away};

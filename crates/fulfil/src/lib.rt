@@ -1,5 +1,7 @@
 // From wanted totals to a sheet: of a day file and a row of them, a lawful sheet with just those totals, or a group of seats that wants
 // more than it can get.
+#![tactic(auto)]
+
 ghost use Rattle.std.specs.Prelude.{◌≡◌};
 ghost use Rattle.dayfile.specs.Table.{first_of, line21, body_length};
 ghost use Rattle.dayfile.specs.Memory.{found, refused};

@@ -2,6 +2,8 @@
 // too much is told alone. Then the seats are served in turn, and mostly each gets what it wants. Otherwise the book is settled with every
 // seat as far below one height as it is below what it wants: a seat that is left short then reaches nobody who has too much, so the seats
 // that it reaches are a group.
+#![tactic(auto)]
+
 ghost use Rattle.std.specs.Prelude.{ℕ, ◌≤◌, ◌<◌, get_or};
 ghost use Rattle.fairness.specs.Instance.{Instance, Feasible};
 ghost use Rattle.fairness.specs.Wanted.{Grants};

@@ -1,4 +1,6 @@
 // Idle seats, whose caps are all zero: line 22, of the planner and the forecast alone.
+#![tactic(auto)]
+
 ghost use Rattle.std.specs.Prelude.{◌≡◌, [], ◌≤◌, get_or};
 ghost use Rattle.model.specs.Lowest.{lowest};
 ghost use Rattle.model.specs.Book.{all_zero};

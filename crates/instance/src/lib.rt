@@ -1,4 +1,6 @@
 // The instance of a book in memory: the numbers that the search for exchange paths and the planner look at.
+#![tactic(auto)]
+
 ghost use Rattle.std.specs.Prelude.{◌≡◌, ◌-◌, ◌≤◌, ◌<◌, get_or};
 ghost use Rattle.fairness.specs.Classes.{class_weights};
 ghost use Rattle.model.specs.Lowest.{when, value_or};

@@ -1,4 +1,6 @@
 // Whether a file holds a lawful sheet: all the lines that the marker checks in a row.
+#![tactic(auto)]
+
 ghost use Rattle.std.specs.Prelude.{◌≡◌};
 ghost use Rattle.dayfile.specs.Table.{first_of, sheet_lines, mark_lines};
 ghost use Rattle.dayfile.specs.Memory.{refused, Reads};

@@ -1,4 +1,6 @@
 // The leximin order: levels by cross products, and which of two lists of them is higher.
+#![tactic(auto)]
+
 ghost use Rattle.std.specs.Prelude.{◌≡◌, true, ◌↔◌, ◌*◌, ◌≤◌, ltb};
 ghost use Rattle.fairness.specs.Leximin.{NoHigher, Higher};
 ghost use Rattle.leximin.specs.Levels.{list_in, Bounded, AllBounded};

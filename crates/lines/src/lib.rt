@@ -1,4 +1,6 @@
 // The lines of a listing, one after another, and the line of a refusal. Seats and windows count from 0 here and from 1 in the text.
+#![tactic(auto)]
+
 ghost use Rattle.std.specs.Prelude.{◌≤◌, ◌*◌, length};
 ghost use Rattle.lists.specs.Buffers.{Room, Stored};
 ghost use Rattle.lines.specs.Lines.{refusal_line, window_lines, seat_lines, move_lines, Printed, refusal_max};

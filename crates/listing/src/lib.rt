@@ -1,4 +1,6 @@
 // The text that the program `mark` prints of a file, written to the front of an output buffer.
+#![tactic(auto)]
+
 ghost use Rattle.std.specs.Prelude.{◌≡◌, List, ◌++◌, ℕ, ◌≤◌, ◌*◌, length};
 ghost use Rattle.fairness.specs.Exchange.{Move};
 ghost use Rattle.model.specs.Marks.{move_bytes};

@@ -1,4 +1,6 @@
 // mark: reads a day file on standard input and writes its listing, or the one line that refuses it.
+#![tactic(auto)]
+
 use libc::{STDIN_FILENO, STDOUT_FILENO};
 
 fn main() {

@@ -1,4 +1,6 @@
 // Marks the sheet of a day file.
+#![tactic(auto)]
+
 ghost use Rattle.dayfile.specs.Memory.{Reads};
 ghost use Rattle.marker.specs.Marking.{Marks};
 

@@ -1,4 +1,6 @@
 // The mark of a lawful sheet in memory, and the bytes of the exchange path that goes with it.
+#![tactic(auto)]
+
 ghost use Rattle.std.specs.Prelude.{◌≤◌, length};
 ghost use Rattle.fairness.specs.Instance.{Feasible};
 ghost use Rattle.model.specs.Book as model;

@@ -1,4 +1,6 @@
 // Sets of seats, as masks of 32 bits. The empty set is 0. No other crate names an operation on bits.
+#![tactic(auto)]
+
 ghost use Rattle.std.specs.Prelude.{◌≡◌, true, false, ℕ, ◌-◌, ◌≤◌, ◌<◌, min, max, eqb};
 ghost use Rattle.masks.specs.Sets.{bit, size_of, Inserted, Removed, Lowest, Full};
 

@@ -3,6 +3,8 @@
 // A book has up to 4 seats and 3 windows, a sheet 12 cells, 3 for each seat. Outside the book cells, caps and supplies are 0. Where no seat
 // is named as the first, `first` is 0: no file that is taken holds a seat 0. Balances that are all 0 can stand in a file or be missing, so
 // `has_balances` says which; where they are missing, the numbers are 0. So are own weights, and paper 01's are in force.
+#![tactic(auto)]
+
 pub mod idle;
 pub mod marks;
 pub mod memory;

@@ -1,4 +1,6 @@
 // What the programs print: all of it is decided here, and each program only reads, calls and writes.
+#![tactic(auto)]
+
 ghost use Rattle.std.specs.Prelude.{◌≤◌, length};
 ghost use Rattle.dayfile.specs.declared.Written.TheVariants.{Whole};
 ghost use Rattle.listing.specs.Calls.{Lists};

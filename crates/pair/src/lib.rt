@@ -1,4 +1,6 @@
 // Two hand-ins in memory: whether they are of one book, and whether the second sheet has the higher list.
+#![tactic(auto)]
+
 ghost use Rattle.std.specs.Prelude.{◌≡◌, true, ◌↔◌, ◌≤◌, length};
 ghost use Rattle.fairness.specs.Leximin.{NoHigher, Higher};
 ghost use Rattle.model.specs.Book.{Grid};

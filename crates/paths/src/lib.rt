@@ -1,4 +1,6 @@
 // Shortest exchange paths on a graph in memory: how many moves lead from a receiver to a donor, and the moves from the donor back.
+#![tactic(auto)]
+
 ghost use Rattle.std.specs.Prelude.{◌≡◌, false, ℕ, ◌≤◌, ◌<◌, length};
 ghost use Rattle.masks.specs.Sets.{bit, In, Within};
 ghost use Rattle.reach.specs.Graphs.{set_at, Collects, Reached};

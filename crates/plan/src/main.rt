@@ -1,4 +1,6 @@
 // plan: reads a day file on standard input and writes it with its planned sheet, or the one line that refuses it.
+#![tactic(auto)]
+
 use libc::{STDIN_FILENO, STDOUT_FILENO};
 
 fn main() {

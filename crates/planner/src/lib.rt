@@ -1,4 +1,6 @@
 // Plans the sheet of a day file.
+#![tactic(auto)]
+
 ghost use Rattle.std.specs.Prelude.{◌≡◌, ◌++◌};
 ghost use Rattle.fairness.specs.Standard.{Standard};
 ghost use Rattle.model.specs.Book.{cell, instance_of};

@@ -2,6 +2,8 @@
 // standard one of its totals already, which is not. Cells are raised in reading order, each as far as cycles allow: the seat takes in the
 // cell's window from a later seat, that one takes elsewhere from another, and so on, and the last takes from the first in a window behind
 // the cell. So every total stays, and so do all cells before.
+#![tactic(auto)]
+
 mod cycle;
 mod links;
 mod search;

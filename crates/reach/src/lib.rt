@@ -1,4 +1,6 @@
 // Which seats a receiver reaches: sets of seats as masks, grown along the moves that are possible.
+#![tactic(auto)]
+
 ghost use Rattle.std.specs.Prelude.{◌≡◌, ◌↔◌, ℕ, ◌+◌, ◌<◌, length};
 ghost use Rattle.masks.specs.Sets.{In};
 ghost use Rattle.reach.specs.Graphs.{UnionOver, Reached, Spread, Grown};

@@ -1,4 +1,6 @@
 // Reads a day file: the refusal of the first line of the table that holds, or the day that it holds, in arrays whose unused cells are 0.
+#![tactic(auto)]
+
 ghost use Rattle.dayfile.specs.Memory.{Reads};
 
 use day::{day_of, no_day};

@@ -1,4 +1,6 @@
 // The first receiver that reaches a donor which is wanted for it, on scores and a graph in memory.
+#![tactic(auto)]
+
 ghost use Rattle.std.specs.Prelude.{◌≡◌, ◌↔◌, ℕ, ◌≤◌, ◌<◌};
 ghost use Rattle.masks.specs.Sets.{In};
 ghost use Rattle.receiver.specs.Tests.{test_by, Tested, Bounded, Wants};

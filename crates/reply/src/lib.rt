@@ -1,4 +1,6 @@
 // What the call for wanted totals replies, and what of it crosses to C: a #[repr(C)] struct of numbers, laid out as include/credits.h says.
+#![tactic(auto)]
+
 ghost use Rattle.std.specs.Prelude.{◌≡◌};
 ghost use Rattle.reply.specs.Numbers.{fulfil_numbers};
 

@@ -1,4 +1,6 @@
 // What the test programs are made of: numbers in a text, text on the standard output, answers in numbers, a look at the bytes of a buffer.
+#![tactic(auto)]
+
 ghost use Rattle.std.specs.Prelude.{◌<◌};
 
 use dayfile::{Check, Written};

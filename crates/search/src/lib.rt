@@ -1,4 +1,6 @@
 // The search on scores and a graph in memory: the first receiver that reaches a donor, and a shortest path between the two.
+#![tactic(auto)]
+
 ghost use Rattle.std.specs.Prelude.{◌≤◌};
 ghost use Rattle.receiver.specs.Tests.{Bounded};
 ghost use Rattle.search.specs.Steps.{Firsts, Finds};

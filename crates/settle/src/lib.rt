@@ -1,4 +1,6 @@
 // From a grid that is feasible and not wasteful to a settled one of the same book.
+#![tactic(auto)]
+
 ghost use Rattle.fairness.specs.Instance.{Instance};
 ghost use Rattle.fairness.specs.Exchange.{Settled};
 ghost use Rattle.model.specs.Book.{cell};

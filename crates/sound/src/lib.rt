@@ -1,4 +1,6 @@
 // Whether a day file is sound: lines 1 to 12 of the table, and those of the kinds that may be missing.
+#![tactic(auto)]
+
 ghost use Rattle.std.specs.Prelude.{◌≡◌};
 ghost use Rattle.dayfile.specs.Table.{first_of, read_lines};
 ghost use Rattle.dayfile.specs.Memory.{refused};

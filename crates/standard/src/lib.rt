@@ -1,4 +1,6 @@
 // From a settled grid to the standard one of the same book: a fast pass, whose quality nobody proves, and a finisher, which is proved.
+#![tactic(auto)]
+
 ghost use Rattle.std.specs.Prelude.{◌≡◌, true, ℕ, ◌≤◌, ◌<◌};
 ghost use Rattle.fairness.specs.Sums.{sum};
 ghost use Rattle.fairness.specs.Instance.{Instance};

@@ -1,6 +1,8 @@
 // The fast start: from a filled grid to one that is filled too, which is what is proved, and nearly always settled already, which is not:
 // whoever promises that looks for exchange paths again. Shortest augmenting paths with capacity scaling: the lowest receiver takes from
 // the highest donor that it reaches, many credits at a time.
+#![tactic(auto)]
+
 mod augment;
 mod choose;
 mod residual;

@@ -1,4 +1,6 @@
 // The file of a day in memory, stored at the front of a buffer: its contents, then its bodies in the order of their kinds.
+#![tactic(auto)]
+
 ghost use Rattle.std.specs.Prelude.{◌≡◌, ◌≤◌, length};
 ghost use Rattle.model.specs.Book.{Grid};
 ghost use Rattle.dayfile.specs.Memory.{file_with, front};

@@ -1,4 +1,6 @@
 // Text in an output buffer: bytes, numbers in decimal, and times of the day.
+#![tactic(auto)]
+
 ghost use Rattle.std.specs.Prelude.{◌≡◌, ◌<◌};
 ghost use Rattle.lists.specs.Buffers.{Room, Stored};
 ghost use Rattle.text.specs.Text.{digits, width_of, decimal, four_digits, opening_time};

@@ -1,5 +1,7 @@
 // Whether every cell of a settled grid is topmost: no settled grid with the same cells before it has more there. One sweep over the seats,
 // from the last one up, shows it for all cells. For each window it keeps a set of windows, closed under what the seats so far can pass on.
+#![tactic(auto)]
+
 ghost use Rattle.std.specs.Prelude.{◌≡◌, true, ℕ, ◌≤◌, ◌<◌};
 ghost use Rattle.masks.specs.Sets.{In};
 ghost use Rattle.reach.specs.Graphs.{set_at};

@@ -1,5 +1,7 @@
 // Trials: random books and files through all calls. What the library says of small books is held against the crate `oracle`. The numbers
 // are drawn from a fixed start.
+#![tactic(auto)]
+
 use say::{COUNTS, say_report};
 use tally::Tally;
 

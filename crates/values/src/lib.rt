@@ -1,4 +1,6 @@
 // Lines 10 to 12: values.
+#![tactic(auto)]
+
 ghost use Rattle.std.specs.Prelude.{◌≡◌, ◌<◌};
 ghost use Rattle.dayfile.specs.Table.{wrong_field, outside, line10, line11, line12, first_of, value_lines};
 ghost use Rattle.dayfile.specs.Memory.{found, refused};

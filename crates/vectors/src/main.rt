@@ -1,5 +1,7 @@
 // Runs the vectors that stand on standard input, a line each, and prints each line with what the library makes of it. Lines that start
 // with # say what the vectors below them show; the other forms are explained at the top of that file.
+#![tactic(auto)]
+
 ghost use Rattle.std.specs.Prelude.{◌≡◌, ◌<◌, ◌≤◌, length};
 
 use calls::{day_in, file_in, second_in};

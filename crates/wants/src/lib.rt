@@ -1,4 +1,6 @@
 // Wanted totals in memory: a row of them read, the terms that aim at them, which seat has too little, and a sheet cut down to them.
+#![tactic(auto)]
+
 ghost use Rattle.std.specs.Prelude.{◌≡◌, ℕ, min, ◌+◌, ◌-◌, ◌≤◌, ◌<◌, get_or};
 ghost use Rattle.fairness.specs.Sums.{sum};
 ghost use Rattle.fairness.specs.Instance.{Instance, Feasible};

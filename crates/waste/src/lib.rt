@@ -1,4 +1,6 @@
 // Whether a sheet is wasteful: some window has credits left while a seat is below its cap there.
+#![tactic(auto)]
+
 ghost use Rattle.std.specs.Prelude.{◌≡◌, ◌≤◌, ◌<◌};
 ghost use Rattle.dayfile.specs.Memory.{found, book_in, cells_in};
 ghost use Rattle.waste.specs.Wastes.{lowest_below, Tells};

@@ -1,4 +1,6 @@
 // Writes the day file of a day in memory to the front of an output buffer.
+#![tactic(auto)]
+
 ghost use Rattle.dayfile.specs.Memory.{WritesDay};
 
 use dayfile::{Check, Day, Written};

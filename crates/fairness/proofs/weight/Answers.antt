@@ -5,15 +5,11 @@ use Prim.Native.Nat.{◌-◌}
 use lib.ListN.{get_or}
 use Rattle.fairness.specs.Classes.{class_weights, weight_of}
 use Rattle.fairness.proofs.Weights.{weight-bounds, get_d-inside}
-use Rattle.fairness.proofs.weight.Statement.{statement}
-use Rattle.fairness.proofs.weight.Tie as tie
+use Rattle.fairness.proofs.weight.Goals as goal
 
-returns : tie.Need-returns
+pub returns : goal.returns
 unfolding weight_of
 returns c =
     let e : get_or class_weights (c.args.class - 1) 0 ≡ weight_of c.args.class =
     get_d-inside class_weights 0 1 (c.args.class - 1) (search rules) in
     record { exact = e; least = rw e (weight-bounds c.args.class).0; most = rw e (weight-bounds c.args.class).1 }
-
-pub weight-spec : {M : Type 1} → statement M
-weight-spec = tie.close (tie.spec (λ c. search rules) (λ c. search rules) (λ c. search rules) returns)
