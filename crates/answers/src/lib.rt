@@ -11,7 +11,7 @@ use dayfile::{Book, Check, Day, Reading, Written};
 use sheet::Sheet;
 
 // What the marker says: a refusal, or one of the four marks, with numbers counted from 1.
-#[derive(Drop)]
+#[derive(Clone, Copy)]
 pub enum Marking {
     Refused { number: u8, at: usize },
     Wasteful { window: usize, seat: usize },
@@ -21,7 +21,7 @@ pub enum Marking {
 }
 
 // An answer in numbers: a refusal's number and offset, or a mark and what comes with it. What an answer does not use is 0.
-#[derive(Drop)]
+#[derive(Clone, Copy)]
 pub struct Numbers {
     pub refusal: u8,
     pub offset: usize,
@@ -34,7 +34,7 @@ pub struct Numbers {
 // A book with its caps, a sheet unless has_sheet is 0, a first seat unless has_first is 0, balances unless has_balances is 0, and weights
 // of its own unless has_weights is 0. Later fields go to its end, so that offsets stay.
 #[repr(C)]
-#[derive(Drop)]
+#[derive(Clone, Copy)]
 pub struct CreditsBook {
     pub seats: usize,
     pub windows: usize,
@@ -53,7 +53,7 @@ pub struct CreditsBook {
 
 // A refusal, or a book.
 #[repr(C)]
-#[derive(Drop)]
+#[derive(Clone, Copy)]
 pub struct ReadResult {
     pub refusal: u32,
     pub offset: usize,
@@ -62,7 +62,7 @@ pub struct ReadResult {
 
 // A refusal, or the length of what now stands at the front of the output buffer.
 #[repr(C)]
-#[derive(Drop)]
+#[derive(Clone, Copy)]
 pub struct WriteResult {
     pub refusal: u32,
     pub offset: usize,
@@ -71,7 +71,7 @@ pub struct WriteResult {
 
 // A refusal, or a mark.
 #[repr(C)]
-#[derive(Drop)]
+#[derive(Clone, Copy)]
 pub struct MarkResult {
     pub refusal: u32,
     pub offset: usize,

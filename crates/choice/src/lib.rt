@@ -5,7 +5,7 @@ ghost use Rattle.std.specs.Prelude.{◌≡◌};
 ghost use Rattle.choice.specs.Numbers.{better_numbers};
 
 // A refusal and the file that it is of, 0 where it is of both; or which of the two is chosen.
-#[derive(Drop)]
+#[derive(Clone, Copy)]
 pub enum Choice {
     Refused { file: u8, number: u8, at: usize },
     First,
@@ -13,7 +13,7 @@ pub enum Choice {
 }
 
 // Where a sheet body lies in its file; both are 0 where there is none.
-#[derive(Drop)]
+#[derive(Clone, Copy)]
 pub struct Span {
     pub start: usize,
     pub length: usize,
@@ -21,7 +21,7 @@ pub struct Span {
 
 // The same for C: a refusal and its file, or the file that is chosen, 1 or 2, and where its sheet body lies.
 #[repr(C)]
-#[derive(Drop)]
+#[derive(Clone, Copy)]
 pub struct BetterResult {
     pub refusal: u32,
     pub offset: usize,

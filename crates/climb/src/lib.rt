@@ -24,14 +24,14 @@ use settle::play_path;
 use sheet::{Caps, Move, Sheet};
 
 // Where a cell stands.
-#[derive(Drop)]
+#[derive(Clone, Copy)]
 pub struct Place {
     pub seat: usize,
     pub window: usize,
 }
 
 // A cycle of moves: an exchange path from a seat to a donor, and the closing move, by which the seat gives that donor a credit.
-#[derive(Drop)]
+#[derive(Clone, Copy)]
 pub struct Cycle {
     // Whether there is one.
     pub found: bool,

@@ -17,21 +17,21 @@ pub const KNOWN: usize = 7;
 pub const LONGEST_FILE: usize = 3310;
 
 // Where a line of the table of refusals holds.
-#[derive(Drop)]
+#[derive(Clone, Copy)]
 pub enum Found {
     At(usize),
     Nothing,
 }
 
 // A refusal, or that no line of the table turns the file away.
-#[derive(Drop)]
+#[derive(Clone, Copy)]
 pub enum Check {
     Refused { number: u8, at: usize },
     Sound,
 }
 
 // A refusal, or the length of the file that now stands at the front of the output buffer.
-#[derive(Drop)]
+#[derive(Clone, Copy)]
 pub enum Written {
     Refused { number: u8, at: usize },
     Whole { length: usize },
@@ -40,7 +40,7 @@ pub enum Written {
 // A book in memory, but for its caps. The seat that comes first, counted from 1, or its absence; the balances carried over, or their
 // absence; its own weights of classes 1 to 8, or their absence.
 #[repr(C)]
-#[derive(Drop)]
+#[derive(Clone, Copy)]
 pub struct Book {
     pub seats: usize,
     pub windows: usize,
@@ -57,7 +57,7 @@ pub struct Book {
 // What a day file holds: a book with its caps, and a sheet or its absence. A field cannot be an array of arrays, so the caps are rows too.
 // The grids stand first: a book and a flag end with bytes that are free, and what comes behind those is copied once more on its way into a
 // day.
-#[derive(Drop)]
+#[derive(Clone, Copy)]
 pub struct Day {
     pub caps: Sheet,
     pub sheet: Sheet,
@@ -80,7 +80,7 @@ impl Day {
 }
 
 // What the reader answers: a refusal and a day of zeros, or the day of the file.
-#[derive(Drop)]
+#[derive(Clone, Copy)]
 pub struct Reading {
     pub check: Check,
     pub day: Day,

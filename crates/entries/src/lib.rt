@@ -10,7 +10,7 @@ use dayfile::{Found, KNOWN, within};
 use fields::{count, ends, kind, seats, size, start, windows};
 
 // What is tested: its kind, where its body starts, how long a grid is.
-#[derive(Drop)]
+#[derive(Clone, Copy)]
 pub enum Test {
     Kinds,
     Starts,

@@ -55,7 +55,7 @@ pub fn step_within(window: usize, giver: usize, taker: usize) -> Move
 }
 
 // How many seats and windows a grid has in use.
-#[derive(Drop)]
+#[derive(Clone, Copy)]
 pub struct Size {
     pub seats: usize,
     pub windows: usize,

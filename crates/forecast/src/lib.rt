@@ -14,7 +14,7 @@ use sheet::{Caps, placed};
 use store::file_length;
 
 // A refusal and zeros, or the two figures; of 24 windows those that the book does not have are 0.
-#[derive(Drop)]
+#[derive(Clone, Copy)]
 pub struct Foretold {
     pub check: Check,
     pub length: usize,
@@ -23,7 +23,7 @@ pub struct Foretold {
 
 // The same for C: a #[repr(C)] struct of numbers, laid out as include/credits.h says.
 #[repr(C)]
-#[derive(Drop)]
+#[derive(Clone, Copy)]
 pub struct ForecastResult {
     pub refusal: u32,
     pub offset: usize,

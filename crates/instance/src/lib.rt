@@ -12,7 +12,7 @@ ghost use Rattle.instance.specs.Terms.{balances_in_force, weights_in_force, Told
 use dayfile::Book;
 
 // An instance by value, without its caps, which stand beside it as an array of arrays. The first seats and windows are used.
-#[derive(Drop)]
+#[derive(Clone, Copy)]
 pub struct Terms {
     pub seats: usize,
     pub windows: usize,

@@ -6,7 +6,7 @@ ghost use Rattle.fairness.specs.Leximin.{NoHigher, Higher};
 ghost use Rattle.leximin.specs.Levels.{list_in, Bounded, AllBounded};
 
 // A height and a weight: the fraction height / weight.
-#[derive(Drop)]
+#[derive(Clone, Copy)]
 pub struct Level {
     pub height: u32,
     pub weight: u32,

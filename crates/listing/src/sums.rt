@@ -5,7 +5,7 @@ ghost use Rattle.sheet.specs.Sheets.{credit};
 
 use sheet::Sheet;
 
-#[derive(Drop)]
+#[derive(Clone, Copy)]
 pub struct Sums {
     pub placed: [u32; 24],
     pub totals: [u32; 32],

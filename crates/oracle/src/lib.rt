@@ -14,7 +14,7 @@ pub mod rules;
 pub mod standard;
 pub mod wanted;
 
-#[derive(Drop)]
+#[derive(Clone, Copy)]
 pub struct Small {
     pub seats: usize,
     pub windows: usize,

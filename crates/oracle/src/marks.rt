@@ -4,7 +4,7 @@ use crate::paths::play;
 use crate::rules::{above, feasible, rank_of, wasted};
 
 // A mark and what comes with it: a window and a seat, or the number of moves. What a mark does not use is 0.
-#[derive(Drop)]
+#[derive(Clone, Copy)]
 pub struct Told {
     pub mark: u8,
     pub window: usize,

@@ -2,7 +2,7 @@
 use crate::rules::cell;
 
 // The cells after the moves so far, the seat that gave last, and whether every move was possible and went on where the last one ended.
-#[derive(Drop)]
+#[derive(Clone, Copy)]
 pub struct Played {
     pub cells: [u16; 12],
     pub last: u8,
@@ -10,7 +10,7 @@ pub struct Played {
 }
 
 // A move as the buffer has it, three bytes.
-#[derive(Drop)]
+#[derive(Clone, Copy)]
 struct Move {
     window: u8,
     giver: u8,

@@ -4,7 +4,7 @@ use crate::rules::{above, feasible, rank_of};
 
 // The best of the sheets so far: the highest rank, the cells that read highest of those with this rank, and whether there are several.
 // Of all sheets of a book, those with the highest rank are the settled ones.
-#[derive(Drop)]
+#[derive(Clone, Copy)]
 pub struct Best {
     pub rank: [u64; 8],
     pub cells: [u16; 12],

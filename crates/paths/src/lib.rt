@@ -12,7 +12,7 @@ use reach::{Graph, outward, start};
 use sheet::Move;
 
 // What an exchange path does: it improves the sheet, or ties wrongly. Or there is none.
-#[derive(Drop)]
+#[derive(Clone, Copy)]
 pub enum Kind {
     None,
     Improving,
@@ -20,7 +20,7 @@ pub enum Kind {
 }
 
 // An exchange path from a receiver to a donor, its moves from the receiver's on.
-#[derive(Drop)]
+#[derive(Clone, Copy)]
 pub struct ExchangePath {
     pub kind: Kind,
     pub receiver: usize,

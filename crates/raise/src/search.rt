@@ -5,7 +5,7 @@ use crate::links::{HOLDERS, Links, ROOMS, TAKERS, WINDOWS};
 use masks::{insert, intersect, lowest, minus, remove_lowest, union};
 
 // A cell to raise: its seat and window, the seats after it, and the goals: windows behind it in which its seat has a credit to give back.
-#[derive(Drop)]
+#[derive(Clone, Copy)]
 pub(crate) struct Cell {
     pub seat: usize,
     pub window: usize,

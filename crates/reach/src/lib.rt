@@ -8,7 +8,7 @@ ghost use Rattle.reach.specs.Graphs.{UnionOver, Reached, Spread, Grown};
 use masks::{full, insert, intersect, lowest, minus, remove_lowest, union};
 
 // Who can take a credit from whom.
-#[derive(Drop)]
+#[derive(Clone, Copy)]
 pub struct Graph {
     // For each seat the windows in which it is below its cap.
     pub rooms: [u32; 32],
@@ -17,7 +17,7 @@ pub struct Graph {
 }
 
 // A search outward from a seat, a move at a time.
-#[derive(Drop)]
+#[derive(Clone, Copy)]
 pub struct Wave {
     // The seats that were reached.
     pub seen: u32,

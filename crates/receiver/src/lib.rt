@@ -10,7 +10,7 @@ use paths::Kind;
 use reach::Graph;
 
 // What the tests look at of a seat: its height, its weight, and its place in the order of the seat rule.
-#[derive(Drop)]
+#[derive(Clone, Copy)]
 pub struct Score {
     pub height: u32,
     pub weight: u32,
@@ -18,7 +18,7 @@ pub struct Score {
 }
 
 // The scores of all seats.
-#[derive(Drop)]
+#[derive(Clone, Copy)]
 pub struct Scores {
     pub heights: [u32; 32],
     pub weights: [u32; 32],
@@ -26,7 +26,7 @@ pub struct Scores {
 }
 
 // The first receiver that reaches a donor.
-#[derive(Drop)]
+#[derive(Clone, Copy)]
 pub enum Receiver {
     Nobody,
     Seat(usize),

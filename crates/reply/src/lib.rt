@@ -5,7 +5,7 @@ ghost use Rattle.std.specs.Prelude.{◌≡◌};
 ghost use Rattle.reply.specs.Numbers.{fulfil_numbers};
 
 // A refusal; the length of the sheet body that now stands at the front of the output buffer; or a group of seats, as a mask.
-#[derive(Drop)]
+#[derive(Clone, Copy)]
 pub enum Reply {
     Refused { number: u8, at: usize },
     Sheet { length: usize },
@@ -14,7 +14,7 @@ pub enum Reply {
 
 // The same for C: a refusal, the length of a sheet body, or a group, of which bit i is seat i + 1. What a reply does not use is 0.
 #[repr(C)]
-#[derive(Drop)]
+#[derive(Clone, Copy)]
 pub struct FulfilResult {
     pub refusal: u32,
     pub offset: usize,

@@ -50,7 +50,7 @@ pub fn say_refusal(number: u8, at: usize) {
 }
 
 // An answer in numbers: a refusal's number and offset, or the length of what was written. What an answer does not use is 0.
-#[derive(Drop)]
+#[derive(Clone, Copy)]
 pub struct Reply {
     pub taken: bool,
     pub number: u8,

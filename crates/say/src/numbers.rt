@@ -37,7 +37,7 @@ fn with_digit(x: u32, c: u8) -> u32 {
 }
 
 // In the midst of a text: the number that was begun, whether it has a digit yet, and its place.
-#[derive(Drop)]
+#[derive(Clone, Copy)]
 struct Scan {
     x: u32,
     begun: bool,

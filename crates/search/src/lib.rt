@@ -10,7 +10,7 @@ use reach::Graph;
 use receiver::{Receiver, Scores, first_receiver, wanted_by};
 
 // A receiver and a donor that it reaches.
-#[derive(Drop)]
+#[derive(Clone, Copy)]
 pub enum Pair {
     Nobody,
     Between { receiver: usize, donor: usize },

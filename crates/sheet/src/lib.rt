@@ -9,20 +9,20 @@ ghost use Rattle.sheet.specs.Sheets.{credit, grid_of, move_of, Added, Playable};
 
 // A seat's cells, one for each window.
 #[repr(C)]
-#[derive(Drop)]
+#[derive(Clone, Copy)]
 pub struct Row {
     pub cells: [u16; 24],
 }
 
 // A row for each seat.
 #[repr(C)]
-#[derive(Drop)]
+#[derive(Clone, Copy)]
 pub struct Sheet {
     pub rows: [Row; 32],
 }
 
 // One credit in a window, from a giver to a taker.
-#[derive(Drop)]
+#[derive(Clone, Copy)]
 pub struct Move {
     pub window: usize,
     pub giver: usize,

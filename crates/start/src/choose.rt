@@ -6,7 +6,7 @@ use crate::shortest::{Tree, grow};
 use masks::{lowest, remove_lowest};
 
 // What stands at the top of a seat, as the order sees it.
-#[derive(Drop)]
+#[derive(Clone, Copy)]
 struct Credit {
     height: u32,
     weight: u32,
@@ -14,7 +14,7 @@ struct Credit {
 }
 
 // What a seat is chosen for: the receiver is the one whose next credit comes first, the donor the one whose last credit comes last.
-#[derive(Drop)]
+#[derive(Clone, Copy)]
 enum Role {
     Receiver,
     Donor,
@@ -117,7 +117,7 @@ fn affordable(receiver: Credit, donor: Credit) -> u16 {
 }
 
 // A receiver, a donor, the shortest paths from the receiver, how many credits are to go along the one to the donor, and who is done.
-#[derive(Drop)]
+#[derive(Clone, Copy)]
 pub(crate) struct Augmentation {
     pub receiver: usize,
     pub donor: usize,

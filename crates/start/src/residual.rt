@@ -21,7 +21,7 @@ pub(crate) const WEIGHTS: usize = 3;
 pub(crate) const POSITIONS: usize = 4;
 
 // A phase of capacity scaling: only room for `unit` credits counts, and only `unit` credits held.
-#[derive(Drop)]
+#[derive(Clone, Copy)]
 pub(crate) struct Phase {
     pub seats: usize,
     pub windows: usize,

@@ -7,7 +7,7 @@ use masks::{full, insert, intersect, lowest, minus, remove, remove_lowest, union
 use sheet::Move;
 
 // A tree of shortest paths: the set reached, and for each seat of it but the receiver the window where it gives and who takes.
-#[derive(Drop)]
+#[derive(Clone, Copy)]
 pub(crate) struct Tree {
     pub set: u32,
     pub windows: [u8; 32],

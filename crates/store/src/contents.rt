@@ -8,7 +8,7 @@ use super::numbers::{put, size_if};
 use dayfile::{Book, KNOWN};
 
 // A part that a file can have: its kind, whether it is there, and how many fields its body has.
-#[derive(Drop)]
+#[derive(Clone, Copy)]
 pub struct Slot {
     pub kind: u8,
     pub there: bool,

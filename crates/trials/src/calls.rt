@@ -14,7 +14,7 @@ use say::{Reply, all_from, checked, front, refusal, replied, taken};
 // More bytes than any file and any listing has.
 pub const ROOM: usize = LISTING_MAX + 7;
 
-#[derive(Drop)]
+#[derive(Clone, Copy)]
 pub enum Call {
     Mark,
     Plan,
@@ -24,7 +24,7 @@ pub enum Call {
 
 // What a call answered, and what stands in the buffer after it: whether the bytes behind what it wrote are still 255, the first byte, and
 // whether what it wrote is the file it was given, is one that the reader takes, is one with mark 4, and is what was forecast of a plan.
-#[derive(Drop)]
+#[derive(Clone, Copy)]
 pub struct Seen {
     pub reply: Reply,
     pub kept: bool,

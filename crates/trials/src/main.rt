@@ -14,7 +14,7 @@ pub mod sheets;
 pub mod tally;
 pub mod wanted;
 
-#[derive(Drop)]
+#[derive(Clone, Copy)]
 enum Kind {
     Small,
     Damaged,

@@ -30,7 +30,7 @@ fn best_of(s: Small) -> Best {
 }
 
 // A mark, its number of moves, and whether it is right.
-#[derive(Drop)]
+#[derive(Clone, Copy)]
 struct Verdict {
     mark: u8,
     moves: usize,

@@ -9,7 +9,7 @@ use dayfile::{Book, Found};
 use sheet::{Caps, placed};
 
 // The lowest window that is wasted, and the lowest seat below its cap there, counted from 0.
-#[derive(Drop)]
+#[derive(Clone, Copy)]
 pub enum Waste {
     Nowhere,
     At { window: usize, seat: usize },

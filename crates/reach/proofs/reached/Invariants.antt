@@ -1,0 +1,11 @@
+use borrow.Author.Rules.{rules}
+use Prim.Native.Nat.{ℕ, ◌+◌}
+use Rattle.reach.specs.Graphs.{Spread}
+use Rattle.reach.proofs.Waves.{last, ahead, ahead-less}
+use Rattle.reach.proofs.reached.Given as goal
+
+abbrev pub invariant-loop-wave : goal.invariant-loop-wave
+invariant-loop-wave l = (n : ℕ) × Spread l.graph l.g n l.wave
+
+abbrev pub decreases-loop-wave : goal.decreases-loop-wave
+decreases-loop-wave l = ahead l.wave
