@@ -14,7 +14,7 @@ use Rattle.model.specs.Book.{Grid, cell, Shaped}
 use Rattle.sheet.specs.declared.Row.{Row}
 use Rattle.sheet.specs.declared.Sheet.{Sheet}
 use Rattle.sheet.specs.Sheets.{grid_of}
-use Rattle.sheet.specs.contracts.Row.{the_field}
+use Rattle.sheet.specs.contracts.Row as row
 use Rattle.sheet.specs.contracts.Sheet.{the_row}
 
 -- 32 rows of 24 cells, each below 2 ^ 16
@@ -50,7 +50,7 @@ is-grid g vs p =
 -- ---- a sheet
 
 abbrev Rows : List Row → List Val → Type 0
-Rows xs us = shadow (each the_field.row.Denot the_field.row.own_val (map the_field.into xs) us)
+Rows xs us = shadow (each row.the_row.Denot row.the_row.own_val xs us)
 
 abbrev cells_of : List Row → Grid
 cells_of xs = map (λ (r : Row). r.cells) xs
@@ -58,20 +58,20 @@ cells_of xs = map (λ (r : Row). r.cells) xs
 long-row : (xs : List Row) (us : List Val) (i : ℕ) → i < length xs → Rows xs us → length (get_or (cells_of xs) i []) ≡ 24
 long-row [] us i h p = absurd (omega arith)
 long-row (x ∷ xs) [] i h p = absurd p
-long-row (x ∷ xs) (u ∷ us) zero h p = length_unmapped ℕ x.cells 24 p.0.1.1.0.1.0.1
+long-row (x ∷ xs) (u ∷ us) zero h p = p.0.1.1.0.1.0.1
 long-row (x ∷ xs) (u ∷ us) (suc i) h p = long-row xs us i (omega arith) p.1
 
 fits-row : (xs : List Row) (us : List Val) (i j : ℕ) → Rows xs us → Fits w16 (cell (cells_of xs) i j)
 fits-row [] us i j p = search rules
 fits-row (x ∷ xs) [] i j p = absurd p
-fits-row (x ∷ xs) (u ∷ us) zero j p = elem_fits_field w16 w16 x.cells p.0.1.1.0.0 j p.0.1.1.0.1.1 tt
+fits-row (x ∷ xs) (u ∷ us) zero j p = elem_Fits w16 w16 x.cells p.0.1.1.0.0 j p.0.1.1.0.1.1 tt
 fits-row (x ∷ xs) (u ∷ us) (suc i) j p = fits-row xs us i j p.1
 
 pub shaped : (s : Sheet) (vs : List Val) → shadow (the_row.own_val s vs) → Held (grid_of s)
 unfolding grid_of
 shaped s vs p =
     let a = p.1.1.0 in
-    let n : length s.rows ≡ 32 = sym (length-map s.rows the_field.into) ∙ a.1.0.1 in
+    let n : length s.rows ≡ 32 = a.1.0.1 in
     record {
       shape = record {
         rows = length-map s.rows (λ (r : Row). r.cells) ∙ n;

@@ -1,0 +1,19 @@
+use borrow.Author.Rules.{rules}
+use Prim.Native.Nat.{ℕ, ◌*◌, ◌-◌, ◌≤◌, ◌<◌, zero-le}
+use mathlib.Core.Path.{◌≡◌, sym, ◌∙◌}
+use native.Mathlib.Numerals.{add-one}
+use native.Mathlib.Omega.{arith}
+use lib.ListN.{get_or}
+use Rattle.fairness.specs.Sums.{sum}
+use Rattle.fairness.proofs.Sums.{sum-zero, sum-suc}
+use Rattle.lists.proofs.Arrays.{zeros-at}
+use Rattle.model.specs.Book.{cell}
+use Rattle.sheet.proofs.placed.Given as goal
+
+abbrev pub invariant-loop-i : goal.invariant-loop-i
+invariant-loop-i l =
+    (l.i ≤ l.seats)
+    × ((j : ℕ) → j < l.windows → (get_or l.sums j 0 ≡ sum l.i (λ k. cell l.grid k j)) × (get_or l.sums j 0 ≤ 65535 * l.i))
+
+abbrev pub decreases-loop-i : goal.decreases-loop-i
+decreases-loop-i l = l.seats - l.i
