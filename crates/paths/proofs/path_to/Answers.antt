@@ -8,28 +8,27 @@ use mir.Syntax.{w32}
 use Rattle.masks.proofs.Laws.{in_small}
 use Rattle.reach.specs.Graphs.{set_at}
 use Rattle.paths.proofs.Bridge.{in-last}
-use Rattle.paths.proofs.path_to.Statement.{statement}
-use Rattle.paths.proofs.path_to.Tie as tie
+use Rattle.paths.proofs.path_to.Goals as goal
 
 -- the donor is in the last layer
-fewest-requires : tie.Need-fewest-requires
-fewest-requires c κs =
-    let a = c.before.args in
-    let sets = c.layers.result in
+pub fewest-count-requires : goal.fewest-count-requires
+fewest-count-requires c =
+    let a = c.args in
+    let sets = c.layers-sets.result in
     let held : (w : ℕ) → Fits w32 (set_at a.graph.holders w) = λ w. search rules in
     let fits : Fits w32 (set_at sets 31) = search rules in
     let here = in-last a.graph (search rules) (search rules) (λ w l p. in_small _ l (held w).fits p)
-    sets a.receiver a.donor c.before.requires.0 c.layers.ensures c.before.requires.1 in
+    sets a.receiver a.donor c.requires.0 c.layers-sets.ensures c.requires.1 in
     (in_small _ _ fits.fits here, here)
 
-moves-to-requires : tie.Need-moves-to-requires
-moves-to-requires c κs = (c.fewest.ensures, (_, c.before.layers.ensures))
+pub moves_to-requires : goal.moves_to-requires
+moves_to-requires c = (c.fewest-count.ensures, (_, c.layers-sets.ensures))
 
-returns : tie.Need-returns
+pub returns : goal.returns
 returns c =
-    let few = c.before.fewest.ensures in
-    let layers = c.before.before.layers.ensures in
-    let way = c.moves-to.ensures in
+    let few = c.fewest-count.ensures in
+    let layers = c.layers-sets.ensures in
+    let way = c.moves_to.ensures in
     record {
       kind_is = refl;
       receiver_is = refl;
@@ -38,6 +37,3 @@ returns c =
       counted = way.counted;
       path = λ I S d. way.path I S _ d layers;
     }
-
-pub path-to-spec : {M : Type 1} → statement M
-path-to-spec = tie.close (tie.spec (λ c κs. search rules) fewest-requires moves-to-requires returns)

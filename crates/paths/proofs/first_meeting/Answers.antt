@@ -1,0 +1,33 @@
+-- `paths::first_meeting` meets its contract.
+use borrow.Author.Rules.{rules}
+use Prim.Native.Nat.{ℕ, ◌-◌, ◌≤◌, ◌<◌}
+use mathlib.Core.Logic.{⊎_elim}
+use native.Mathlib.Omega.{arith}
+use borrow.Author.Count.{below_more}
+use lib.ListN.{length}
+use Rattle.paths.specs.Layers.{Meets}
+use Rattle.reach.proofs.Members.{has_in, has-out, at_small}
+use Rattle.paths.proofs.Meeting.{meeting, not-meeting}
+use Rattle.paths.proofs.first_meeting.Goals as goal
+
+pub returns-then-intersect-ne0 : goal.returns-then-intersect-ne0
+returns-then-intersect-ne0 c =
+    meeting _ _ _ _ _ (has_in _ _ _ c.has.ensures c.if-has.true) c.intersect.ensures
+    (omega arith) (search rules)
+
+pub loop-i-preserved : goal.loop-i-preserved
+loop-i-preserved c =
+    let at = c.loop-i in
+    let answer = c.has.ensures in
+    let not-here : Meets c.args.set c.args.sets.now c.args.other at.i → ⊥ =
+    (λ p. ⊎_elim
+    (λ w. not-meeting _ _ _ _ _ w.2.ensures w.3.left p)
+    (λ w. has-out _ _ _ answer w.left p.member)
+    c.if-has.branch) in
+    (search rules, below_more _ _ at.invariant.1 not-here)
+
+pub returns : goal.returns
+returns c =
+    let m = c.requires.by_index in
+    let small = at_small c.args.sets.now m.0 _ m.1.own in
+    absurd (c.loop-i.invariant.1 m.0 (omega arith) m.1)
