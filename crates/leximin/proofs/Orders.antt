@@ -46,5 +46,6 @@ lower-at (suc n) (suc i) f g e l h (next p q r) = lower-at n i (λ k. f (suc k))
 -- there is no such place
 pub even-not-higher : (n : ℕ) (f g : ℕ → Level) → Even n f g → Higher NoHigher (table n f) (table n g) → ⊥
 unfolding table
+even-not-higher zero f g e h = elim h [ ]
 even-not-higher (suc n) f g e (at q) = q (e 0 (omega arith)).1
 even-not-higher (suc n) f g e (next p q r) = even-not-higher n (λ k. f (suc k)) (λ k. g (suc k)) (later n f g e) r

@@ -1,7 +1,7 @@
 -- `paths::column` meets its contract.
 use borrow.Author.Rules.{rules}
 use mathlib.Core.Path.{◌≡◌}
-use mathlib.Core.Logic.{⊎_elim}
+
 use Prim.Native.Nat.{ℕ, ◌-◌, ◌≤◌}
 use native.Mathlib.Omega.{arith}
 use lib.ListN.{length}
@@ -10,6 +10,7 @@ use Rattle.reach.specs.Graphs.{set_at, Collects}
 use Rattle.reach.proofs.Members.{has_in, has-out}
 use Rattle.reach.proofs.Collect.{collect-first, collect-in, collect-out}
 use Rattle.paths.proofs.column.Goals as goal
+use Rattle.paths.proofs.column.Goals.{then-has, else-has}
 
 pub loop-i-init : goal.loop-i-init
 loop-i-init c = (search rules, collect-first _)
@@ -20,10 +21,10 @@ loop-i-preserved c =
     let P : ℕ → Type 0 = λ k. In c.args.l (set_at c.args.sets.now k) in
     let answer = c.has.ensures in (
       search rules,
-      ⊎_elim
-          (λ w. rw w.2 (collect-in P at.i at.all at.invariant.1 _ (has_in _ _ _ answer w.0.taken) w.1.ensures))
-          (λ w. rw w.1 (collect-out P at.i at.all at.invariant.1 (has-out _ _ _ answer w.0.left)))
-          c.if-has.branch,
+      elim c.if-has.branch [
+        | then-has w ↦ rw w.all-is (collect-in P at.i at.all at.invariant.1 _ (has_in _ _ _ answer w.if-has.true) w.insert-all.ensures)
+        | else-has w ↦ rw w.all-is (collect-out P at.i at.all at.invariant.1 (has-out _ _ _ answer w.if-has.false))
+      ],
     )
 
 pub returns : goal.returns

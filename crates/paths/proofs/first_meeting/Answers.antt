@@ -1,7 +1,6 @@
 -- `paths::first_meeting` meets its contract.
 use borrow.Author.Rules.{rules}
 use Prim.Native.Nat.{ℕ, ◌-◌, ◌≤◌, ◌<◌}
-use mathlib.Core.Logic.{⊎_elim}
 use native.Mathlib.Omega.{arith}
 use borrow.Author.Count.{below_more}
 use lib.ListN.{length}
@@ -9,6 +8,7 @@ use Rattle.paths.specs.Layers.{Meets}
 use Rattle.reach.proofs.Members.{has_in, has-out, at_small}
 use Rattle.paths.proofs.Meeting.{meeting, not-meeting}
 use Rattle.paths.proofs.first_meeting.Goals as goal
+use Rattle.paths.proofs.first_meeting.Goals.{then-has+else-intersect-ne0, else-has}
 
 pub returns-then-intersect-ne0 : goal.returns-then-intersect-ne0
 returns-then-intersect-ne0 c =
@@ -20,10 +20,10 @@ loop-i-preserved c =
     let at = c.loop-i in
     let answer = c.has.ensures in
     let not-here : Meets c.args.set c.args.sets.now c.args.other at.i → ⊥ =
-    (λ p. ⊎_elim
-    (λ w. not-meeting _ _ _ _ _ w.2.ensures w.3.left p)
-    (λ w. has-out _ _ _ answer w.left p.member)
-    c.if-has.branch) in
+    λ p. elim c.if-has.branch [
+      | else-has w ↦ has-out _ _ _ answer w.if-has.false p.member
+      | then-has+else-intersect-ne0 w ↦ not-meeting _ _ _ _ _ w.intersect.ensures w.if-intersect-ne0.false p
+    ] in
     (search rules, below_more _ _ at.invariant.1 not-here)
 
 pub returns : goal.returns

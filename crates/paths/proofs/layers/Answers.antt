@@ -2,12 +2,12 @@
 use borrow.Author.Rules.{rules}
 use mathlib.Core.Path.{◌≡◌, refl}
 use mathlib.Core.Bool.{false, true≢false}
-use mathlib.Core.Logic.{⊎_elim}
 use Prim.Native.Nat.{◌+◌, ◌-◌}
 use Rattle.lists.proofs.Arrays.{Filled, filled-first, filled_next, filled_at}
 use Rattle.reach.specs.Graphs.{Layer, Spread}
 use Rattle.reach.proofs.Waves.{still, not_more}
 use Rattle.paths.proofs.layers.Goals as goal
+use Rattle.paths.proofs.layers.Goals.{then-growing, else-growing}
 
 pub loop-n-init : goal.loop-n-init
 loop-n-init c =
@@ -21,15 +21,17 @@ loop-n-preserved c =
     let at = c.loop-n in
     let a = c.args in
     let inv = at.invariant in
-    let next : Spread a.graph a.g (at.n + 1) c.if-growing.wave × (c.if-growing.growing ≡ false → c.if-growing.wave.front ≡ 0) = ⊎_elim
-    (λ t. rw (t.3, t.4) (
-      t.1.ensures.1 _ _ inv.1.0,
-      λ e. not_more _ _ t.1.ensures.0 (search rules) (t.2.ensures.0 e),
-    ))
-    (λ t.
-    let done = inv.1.1 t.0.left in
-    rw t.1 (still _ _ _ _ inv.1.0 done, λ e. done))
-    c.if-growing.branch in
+    let next : Spread a.graph a.g (at.n + 1) c.if-growing.wave × (c.if-growing.growing ≡ false → c.if-growing.wave.front ≡ 0) =
+    elim c.if-growing.branch [
+      | then-growing w ↦
+          rw (w.wave-is, w.growing-is) (
+            w.outward-next.ensures.by_index _ _ inv.1.0,
+            λ e. not_more _ _ w.outward-next.ensures.grown (search rules) (search rules),
+          )
+      | else-growing w ↦
+          let done = inv.1.1 w.if-growing.false in
+          rw (w.wave-is, w.growing-is) (still _ _ _ _ inv.1.0 done, λ e. done)
+    ] in
     (filled_next inv.0 (search rules) inv.1.0.layer, next)
 
 pub returns : goal.returns
