@@ -1,15 +1,13 @@
 use mathlib.Core.Bool.{Bool, not}
 use mathlib.Core.List.{List}
 use mathlib.Core.Option.{Option, some}
-use mathlib.Core.Path.{◌≡◌, refl, ◌∙◌, ap, sym}
+use mathlib.Core.Path.{◌≡◌, ◌∙◌, ap, sym}
 use Prim.Native.Nat.{ℕ, ◌*◌}
-use borrow.Author.Rules.{rules}
 use borrow.Author.Tests.{eq-eqb, ne_eqb}
 use Rattle.model.specs.Lowest.{when, or_else}
 use Rattle.dayfile.specs.Layout.{start, size, size_at}
 use Rattle.dayfile.specs.Table.{wrong_field, wrong_fields}
-use Rattle.sound.proofs.options.wrong_fields.Statement.{statement}
-use Rattle.sound.proofs.options.wrong_fields.Tie as tie
+use Rattle.sound.proofs.options.wrong_fields.Goals as goal
 
 module _ (f : List ℕ) (n low high : ℕ) (rising : Bool) (e : ℕ) where
   -- what is said of the fields
@@ -24,19 +22,12 @@ module _ (f : List ℕ) (n low high : ℕ) (rising : Bool) (e : ℕ) where
   unfolding wrong_fields
   right-length h = sym (ap (λ (t : Bool). or_else (when (not t) (size_at e)) value) (eq-eqb (size f e) (2 * n) h))
 
-returns : tie.Need-returns
-returns c = wrong-length _ _ _ _ _ _ (λ q. c.if1.true (c.before.size.ensures.0 ∙ q))
+pub returns-then-size-n : goal.returns-then-size-n
+returns-then-size-n c = wrong-length _ _ _ _ _ _ (λ q. c.if-size-n.true (c.size.ensures.0 ∙ q))
 
-returns-2 : tie.Need-returns-2
-returns-2 c =
-    let s = c.before in
-    let a = s.before.before.before.before.args in
-    c.wrong-field.ensures
-    ∙ ap (λ (at : ℕ). wrong_field a.file.now at a.n a.low a.high a.rising) s.start.ensures.0
-    ∙ right-length _ _ _ _ _ _ (sym s.before.before.size.ensures.0 ∙ s.before.if1.false)
-
-pub wrong-fields-spec : {M : Type 1} → statement M
-wrong-fields-spec =
-    tie.close
-    (tie.spec (λ c κs. search rules) (λ c. search rules) (λ c. search rules) (λ c. search rules) returns (λ c κs. search rules)
-    (λ c κs. search rules) returns-2)
+pub returns : goal.returns
+returns c =
+    let a = c.args in
+    c.wrong_field.ensures
+    ∙ ap (λ (at : ℕ). wrong_field a.file.now at a.n a.low a.high a.rising) c.start.ensures.0
+    ∙ right-length _ _ _ _ _ _ (sym c.size.ensures.0 ∙ c.if-size-n.false)
