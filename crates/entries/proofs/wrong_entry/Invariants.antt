@@ -1,0 +1,17 @@
+use mathlib.Core.Bool.{not}
+use mathlib.Core.Path.{ap}
+use Prim.Native.Nat.{ℕ, ◌+◌, ◌-◌, ◌*◌}
+use native.Mathlib.Omega.{arith}
+use borrow.Author.Rules.{rules}
+use Rattle.dayfile.specs.Layout.{count}
+use Rattle.dayfile.specs.Table.{offset}
+use Rattle.dayfile.proofs.Tests.{turned}
+use Rattle.dayfile.proofs.Search.{Searching, search-first, search-on, search-hit, search-end}
+use Rattle.entries.specs.Entries.{right_by}
+use Rattle.entries.proofs.wrong_entry.Given as goal
+
+abbrev pub invariant-loop-e : goal.invariant-loop-e
+invariant-loop-e l = Searching (λ k. not (right_by l.test l.file k)) (count l.file) l.n l.e
+
+abbrev pub decreases-loop-e : goal.decreases-loop-e
+decreases-loop-e l = l.n - l.e
