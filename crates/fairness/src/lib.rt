@@ -35,6 +35,7 @@ fn less_one(x: u32) -> u32
 }
 
 // Whether a path from this receiver to this donor ties wrongly.
+#[tactic(auto, unfolding(crate::specs::Exchange::ties_wrongly))]
 pub fn ties_wrongly(
     height: u32,
     weight: u32,
