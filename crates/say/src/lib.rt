@@ -1,52 +1,56 @@
-// What the test programs are made of: numbers in a text, text on the standard output, answers in numbers, a look at the bytes of a buffer.
+// What the test programs are made of: numbers in a text, text to a writer, answers in numbers, a look at the bytes of a buffer.
 #![tactic(auto)]
 
-ghost use Rattle.std.specs.Prelude.{◌<◌};
+ghost use Rattle.std.specs.Prelude.{◌<◌, OnOk};
+ghost use Rattle.std.specs.Io.KnownBytes.{Appends};
 
 use dayfile::{Check, Written};
+use std::io::{self, Write};
 
 pub mod numbers;
 
-pub fn say_text(text: &[u8]) {
-    io::write_all(1, text);
+// A write that fails ends what says it: what was taken until then is written.
+pub fn say_text<W: Write>(to: &mut W, text: &[u8]) -> io::Result<()>
+    ensures { OnOk result (Appends (W.contents to.old) (W.contents to.new) text.now) }
+{
+    to.write_all(text)
 }
 
-pub fn say_number(n: usize) {
-    io::print_decimal(1, n as u64);
+pub fn say_number<W: Write>(to: &mut W, n: usize) -> io::Result<()> {
+    write!(to, "{n}")
 }
 
-fn say_byte(x: u8) {
-    io::print_hex(1, x as u64, 2);
+fn say_byte<W: Write>(to: &mut W, x: u8) -> io::Result<()> {
+    write!(to, "{x:02x}")
 }
 
 // Bytes in hexadecimal, and the line's end.
-pub fn say_hex(bytes: &[u8]) {
-    let mut i = 0;
-    while i < bytes.len() {
-        say_byte(bytes[i]);
-        i += 1;
+pub fn say_hex<W: Write>(to: &mut W, bytes: &[u8]) -> io::Result<()> {
+    for x in bytes {
+        say_byte(to, *x)?;
     }
-    say_text(b"\n");
+    say_text(to, b"\n")
 }
 
-pub fn say_buffer(out: &[u8]) {
-    say_text(b", buffer ");
-    say_hex(out);
+pub fn say_buffer<W: Write>(to: &mut W, out: &[u8]) -> io::Result<()> {
+    say_text(to, b", buffer ")?;
+    say_hex(to, out)
 }
 
 // A number with its name; nothing where it is 0.
-pub fn say_named(name: &[u8], n: usize) {
-    if n != 0 {
-        say_text(name);
-        say_number(n);
+pub fn say_named<W: Write>(to: &mut W, name: &[u8], n: usize) -> io::Result<()> {
+    if n == 0 {
+        return Ok(());
     }
+    say_text(to, name)?;
+    say_number(to, n)
 }
 
-pub fn say_refusal(number: u8, at: usize) {
-    say_text(b"refused ");
-    say_number(number as usize);
-    say_text(b" at ");
-    say_number(at);
+pub fn say_refusal<W: Write>(to: &mut W, number: u8, at: usize) -> io::Result<()> {
+    say_text(to, b"refused ")?;
+    say_number(to, number as usize)?;
+    say_text(to, b" at ")?;
+    say_number(to, at)
 }
 
 // An answer in numbers: a refusal's number and offset, or the length of what was written. What an answer does not use is 0.
@@ -90,13 +94,12 @@ pub fn replied(w: Written) -> Reply {
     }
 }
 
-pub fn say_reply(r: Reply) {
+pub fn say_reply<W: Write>(to: &mut W, r: Reply) -> io::Result<()> {
     if r.taken {
-        say_text(b"length ");
-        say_number(r.length);
-    } else {
-        say_refusal(r.number, r.at);
+        say_text(to, b"length ")?;
+        return say_number(to, r.length);
     }
+    say_refusal(to, r.number, r.at)
 }
 
 // The first n bytes, or all where there are fewer.
@@ -128,35 +131,35 @@ pub const WRONG: usize = 3 * ROWS;
 // The counts of a report.
 pub const COUNTS: usize = WRONG + 1;
 
-pub fn say_count(name: &[u8], n: u32) {
-    say_text(name);
-    say_number(n as usize);
+pub fn say_count<W: Write>(to: &mut W, name: &[u8], n: u32) -> io::Result<()> {
+    say_text(to, name)?;
+    say_number(to, n as usize)
 }
 
 // The line of a number; none where its three counts are 0.
-fn say_row(counts: &[u32; COUNTS], row: usize)
+fn say_row<W: Write>(to: &mut W, counts: &[u32; COUNTS], row: usize) -> io::Result<()>
     requires { row < 23 }
 {
     let a = counts[3 * row];
     let b = counts[3 * row + 1];
     let c = counts[3 * row + 2];
     if (a == 0) & (b == 0) & (c == 0) {
-        return;
+        return Ok(());
     }
-    say_text(b"  ");
-    say_number(row);
-    say_count(b": ", a);
-    say_count(b", ", b);
-    say_count(b", ", c);
-    say_text(b"\n");
+    say_text(to, b"  ")?;
+    say_number(to, row)?;
+    say_count(to, b": ", a)?;
+    say_count(to, b", ", b)?;
+    say_count(to, b", ", c)?;
+    say_text(to, b"\n")
 }
 
 // What was counted, with a line ahead that says of what.
-pub fn say_report(title: &[u8], counts: &[u32; COUNTS]) {
-    say_text(title);
+pub fn say_report<W: Write>(to: &mut W, title: &[u8], counts: &[u32; COUNTS]) -> io::Result<()> {
+    say_text(to, title)?;
     for row in 0..ROWS {
-        say_row(counts, row);
+        say_row(to, counts, row)?;
     }
-    say_count(b"  wrong: ", counts[WRONG]);
-    say_text(b"\n");
+    say_count(to, b"  wrong: ", counts[WRONG])?;
+    say_text(to, b"\n")
 }

@@ -2,7 +2,6 @@ use mathlib.Core.Path.{ap₂, ◌∙◌, sym}
 use Prim.Native.Nat.{ℕ, ◌*◌}
 use native.Mathlib.Omega.{arith}
 use lib.Dec.{eqb}
-use borrow.Author.Rules.{rules}
 use Rattle.dayfile.specs.Table.{grid_right}
 use Rattle.dayfile.proofs.Tests.{cond_yes, cond_no, within-as}
 use Rattle.fields.proofs.Products.{small}

@@ -1,12 +1,7 @@
 use mathlib.Core.Bool.{not}
-use mathlib.Core.Path.{ap}
-use Prim.Native.Nat.{ℕ, ◌+◌, ◌-◌, ◌*◌}
-use native.Mathlib.Omega.{arith}
-use borrow.Author.Rules.{rules}
+use Prim.Native.Nat.{◌-◌}
 use Rattle.dayfile.specs.Layout.{count}
-use Rattle.dayfile.specs.Table.{offset}
-use Rattle.dayfile.proofs.Tests.{turned}
-use Rattle.dayfile.proofs.Search.{Searching, search-first, search-on, search-hit, search-end}
+use Rattle.dayfile.proofs.Search.{Searching}
 use Rattle.entries.specs.Entries.{right_by}
 use Rattle.entries.proofs.wrong_entry.Given as goal
 

@@ -1,7 +1,6 @@
 use mathlib.Core.Path.{ap₂}
 use Prim.Native.Nat.{ℕ, ◌*◌}
 use native.Mathlib.Omega.{arith}
-use borrow.Author.Rules.{rules}
 use Rattle.dayfile.specs.Table.{line12}
 use Rattle.dayfile.proofs.Search.{outside-as}
 use Rattle.fields.proofs.Products.{small}

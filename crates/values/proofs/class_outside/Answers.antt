@@ -1,4 +1,3 @@
-use borrow.Author.Rules.{rules}
 use Rattle.dayfile.specs.Table.{line10}
 use Rattle.dayfile.proofs.Search.{outside-as}
 use Rattle.values.proofs.class_outside.Goals as goal

@@ -1,4 +1,3 @@
-use borrow.Author.Rules.{rules}
 use Rattle.dayfile.specs.Table.{line11}
 use Rattle.dayfile.proofs.Search.{outside-as}
 use Rattle.values.proofs.supply_outside.Goals as goal

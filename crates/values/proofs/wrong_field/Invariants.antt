@@ -1,7 +1,5 @@
 use Prim.Native.Nat.{◌-◌}
-use native.Mathlib.Omega.{arith}
-use borrow.Author.Rules.{rules}
-use Rattle.dayfile.proofs.Search.{Walking, walk_first, walk-on, walk-hit, walk_end}
+use Rattle.dayfile.proofs.Search.{Walking}
 use Rattle.values.proofs.wrong_field.Given as goal
 
 abbrev pub invariant-loop-p : goal.invariant-loop-p

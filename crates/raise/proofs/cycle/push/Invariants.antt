@@ -1,0 +1,10 @@
+use Prim.Native.Nat.{◌-◌, ◌≤◌, ◌<◌}
+use Rattle.fill.specs.Fills.{Keeps}
+use Rattle.raise.proofs.cycle.push.Given as goal
+
+abbrev pub invariant-loop : goal.invariant-loop
+invariant-loop l =
+    (l.counter ≤ 32) × ((l.giver < 32) × Keeps l.size.seats l.size.windows l.caps l.initial.grid l.grid)
+
+abbrev pub decreases-loop : goal.decreases-loop
+decreases-loop l = 32 - l.counter
