@@ -1,0 +1,22 @@
+use borrow.Author.Rules.{rules}
+use mathlib.Core.Bool.{Bool}
+use mathlib.Core.List.{List}
+use mathlib.Core.Option.{some}
+use mathlib.Core.Path.{ap, ◌∙◌}
+use Prim.Native.Nat.{ℕ, ◌+◌, ◌-◌, ◌*◌}
+use lib.Dec.{ltb}
+use Rattle.dayfile.specs.Layout.{field, windows_in}
+use Rattle.dayfile.specs.Table.{cell_at, placed_in, offset}
+use Rattle.dayfile.proofs.Search.{Searching, search-first, search-on, search-hit, search-end}
+use Rattle.cells.specs.Firsts.{first_over}
+use Rattle.cells.proofs.Sheets.{is_below, not-below, supply-at}
+use Rattle.cells.proofs.first_over.Given as goal
+
+abbrev pub over : List ℕ → ℕ → ℕ → Bool
+over f e j = ltb (field f (cell_at f 1 j)) (placed_in f e j)
+
+abbrev pub invariant-loop-j : goal.invariant-loop-j
+invariant-loop-j l = Searching (over l.file l.e) (windows_in l.file) l.m l.j
+
+abbrev pub decreases-loop-j : goal.decreases-loop-j
+decreases-loop-j l = l.m - l.j
