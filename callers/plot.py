@@ -1,5 +1,5 @@
 #!/usr/bin/env python3
-"""Draws what `bench` measured: target/speed.csv to docs/speed.svg and docs/growth.svg, and the tables of docs/SPEED.md.
+"""Draws what `bench` measured: out/speed.csv to docs/speed.svg and docs/growth.svg, and the tables of docs/SPEED.md.
 
 A table of docs/SPEED.md stands between the comments `<!-- NAME -->` and `<!-- end -->`, and is written anew.
 """
@@ -106,7 +106,7 @@ def fulfil_table(cases, head):
 
 
 def main():
-    tables = load(ROOT / "target" / "speed.csv")
+    tables = load(ROOT / "out" / "speed.csv")
     (ROOT / "docs" / "speed.svg").write_text(str(bars(tables["plan"])))
     (ROOT / "docs" / "growth.svg").write_text(str(curves(tables["seats"], tables["windows"])))
     two = ["library", "plain Rust"]

@@ -122,7 +122,7 @@ def declare(path):
 
 
 HERE = os.path.dirname(os.path.abspath(__file__))
-LIBRARY = declare(os.environ.get('LIBCREDITS', os.path.join(HERE, '../../target/staticlib/libcredits.so')))
+LIBRARY = declare(os.environ.get('LIBCREDITS', os.path.join(HERE, '../../out/staticlib/libcredits.so')))
 
 
 class Refused(Exception):

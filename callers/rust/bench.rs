@@ -1,6 +1,6 @@
 //! Times the library beside plain Rust on the same files, in turn within one loop.
 //!
-//!   bench             all tables; the numbers also go to target/speed.csv
+//!   bench             all tables; the numbers also go to out/speed.csv
 //!   bench worst [N]   looks N seconds (60) for books that take long to plan, and for wanted totals that take long
 //!   bench stack       how much stack each call uses
 //!
@@ -91,8 +91,8 @@ fn all_tables() {
     growth_table(&mut csv, "windows", "plan by windows, 32 seats", by_windows());
     wanted::growth_table(&mut csv, "fulfil seats", "fulfil by seats, 24 windows", by_seats());
     wanted::growth_table(&mut csv, "fulfil windows", "fulfil by windows, 32 seats", by_windows());
-    std::fs::create_dir_all("target").and_then(|()| std::fs::write("target/speed.csv", csv)).expect("target/speed.csv");
-    println!("\nThe numbers are in target/speed.csv.");
+    std::fs::create_dir_all("out").and_then(|()| std::fs::write("out/speed.csv", csv)).expect("out/speed.csv");
+    println!("\nThe numbers are in out/speed.csv.");
 }
 
 /// A line of a table: the times, and those of the library over the plain version's.

@@ -7,7 +7,7 @@
 //! free is tested by their rules: a chain has the right ends and the right number of moves, all of them possible, and ends in a list that
 //! is higher (mark 2) or equal (mark 3); a sheet for wanted totals is lawful and has just these totals, and a group wants more than it can
 //! get. A file that is forecast is then planned, and its plan counted. One book in six has idle seats: planning and the forecast refuse it,
-//! and all other calls take it. The first difference ends the run with status 1, and what it was met with is kept under target/compare.
+//! and all other calls take it. The first difference ends the run with status 1, and what it was met with is kept under out/compare.
 
 use std::path::PathBuf;
 use std::process::ExitCode;
@@ -142,7 +142,7 @@ fn one_turn(rng: &mut Rng, seen: &mut Seen) -> Result<(), String> {
 
 /// Keeps a file, and says where it is.
 fn keep(name: &str, bytes: &[u8], difference: String) -> String {
-    let folder = PathBuf::from("target/compare");
+    let folder = PathBuf::from("out/compare");
     let path = folder.join(name);
     match std::fs::create_dir_all(folder).and_then(|()| std::fs::write(&path, bytes)) {
         Ok(()) => format!("{difference}; it is kept in {}", path.display()),

@@ -1,7 +1,7 @@
 //! The library's calls for Rust: slices in, `Result` out.
 //!
 //! Seats and windows count from 1 in marks, moves and groups, as in the files, and from 0 in the arrays of a [`Book`].
-//! Link with `-L native=target/staticlib -l static=credits`, which `bin/library` builds.
+//! Link with `-L native=out/staticlib -l static=credits`, which `bin/library` builds.
 #![allow(dead_code)]
 
 use std::fmt;

@@ -105,8 +105,8 @@ pub fn search(seconds: u64) {
     println!("and {} with wanted totals", met.with_wants);
     println!("settling had something to do on {} of them", met.settling);
     println!("the fast pass to the standard sheet left something on {}", met.raising);
-    println!("longest plan found: {longest_plan:.0} µs, target/worst.day");
-    println!("longest wanted totals found: {longest_row:.0} µs, target/worst-wanted.day and target/worst-wanted.row");
+    println!("longest plan found: {longest_plan:.0} µs, out/worst.day");
+    println!("longest wanted totals found: {longest_row:.0} µs, out/worst-wanted.day and out/worst-wanted.row");
 }
 
 /// A book with caps and supplies of any size: how high, how many and how scarce is drawn for the whole book. Half of the books name a first
@@ -316,11 +316,11 @@ fn fulfil_time(case: &Case) -> f64 {
 /// Keeps the file, and the row where totals are wanted.
 fn keep(climb: &Climb, case: &Case) {
     let (file, row) = (file_of(&case.book, None), row_of(&case.book, &case.wants));
-    std::fs::create_dir_all("target").expect("target");
+    std::fs::create_dir_all("out").expect("out");
     if climb.is_for_wants() {
-        std::fs::write("target/worst-wanted.day", file).expect("target/worst-wanted.day");
-        std::fs::write("target/worst-wanted.row", row).expect("target/worst-wanted.row");
+        std::fs::write("out/worst-wanted.day", file).expect("out/worst-wanted.day");
+        std::fs::write("out/worst-wanted.row", row).expect("out/worst-wanted.row");
     } else {
-        std::fs::write("target/worst.day", file).expect("target/worst.day");
+        std::fs::write("out/worst.day", file).expect("out/worst.day");
     }
 }

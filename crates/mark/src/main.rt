@@ -1,12 +1,8 @@
 // mark: reads a day file on standard input and writes its listing, or the one line that refuses it.
 #![tactic(auto)]
 
-use libc::{STDIN_FILENO, STDOUT_FILENO};
+use std::io;
 
-fn main() {
-    let mut file = io::large_buffer();
-    let read = io::read_full(STDIN_FILENO, &mut file);
-    let mut out = [0u8; output::ROOM];
-    let length = output::of_mark(&file[..read], &mut out);
-    io::write_all(STDOUT_FILENO, &out[..length]);
+fn main(rt: HostRuntime) -> io::Result<()> {
+    output::mark(rt.alloc(), rt.reader(), &mut io::writer(&rt))
 }

@@ -1,9 +1,13 @@
--- What the program `plan` prints of a file: the planner's answer. (What `mark` prints is the listing, `Lists`.)
-use Rattle.std.specs.Prelude.{◌≡◌, List, ℕ, length}
+-- What the program `plan` prints of a file: the planner's answer. (What `mark` prints is the listing, `Lists`.) And what both write of
+-- their input.
+use Rattle.std.specs.Prelude.{◌≡◌, List, ℕ, length, take}
+use Rattle.std.specs.declared.option.Option.{Option}
+use Rattle.std.specs.Io.KnownBytes.{Appends}
 use Rattle.dayfile.specs.declared.Written.{Written}
 use Rattle.dayfile.specs.declared.Written.TheVariants.{Refused, Whole}
 use Rattle.dayfile.specs.Memory.{front}
 use Rattle.lines.specs.Lines.{refusal_line}
+use Rattle.listing.specs.Calls.{Lists}
 use Rattle.planner.specs.Planning.{Plans}
 
 -- from the planner's answer and the buffer as it left it: a planned file stays, and a refusal's line goes to the front
@@ -18,3 +22,45 @@ pub record PrintsPlan (file before after : List ℕ) (r : ℕ) : Type 0 where
   pub planned : List ℕ
   pub plans : Plans file before planned planner
   pub prints : PrintedOf planner planned after r
+
+-- ---- the programs
+
+-- what a program takes of its input: all of it, or its first 65,536 bytes
+abbrev pub taken : List ℕ → List ℕ
+taken input = take 65536 input
+
+-- a writer, whose bytes are known or not, took a front of these bytes
+abbrev pub AppendsFront : (old new : Option (List ℕ)) → List ℕ → Type 0
+AppendsFront old new bytes = (n : ℕ) × Appends old new (take n bytes)
+
+-- what `mark` writes: the front of a buffer, the listing of what it takes
+pub record WritesMark (input : List ℕ) (old new : Option (List ℕ)) : Type 0 where
+  pub before : List ℕ
+  pub after : List ℕ
+  pub size : ℕ
+  pub lists : Lists (taken input) before after (Whole size)
+  pub bytes : Appends old new (take size after)
+
+-- and where a write fails
+pub record StopsMark (input : List ℕ) (old new : Option (List ℕ)) : Type 0 where
+  pub before : List ℕ
+  pub after : List ℕ
+  pub size : ℕ
+  pub lists : Lists (taken input) before after (Whole size)
+  pub bytes : AppendsFront old new (take size after)
+
+-- what `plan` writes
+pub record WritesPlan (input : List ℕ) (old new : Option (List ℕ)) : Type 0 where
+  pub before : List ℕ
+  pub after : List ℕ
+  pub size : ℕ
+  pub prints : PrintsPlan (taken input) before after size
+  pub bytes : Appends old new (take size after)
+
+-- and where a write fails
+pub record StopsPlan (input : List ℕ) (old new : Option (List ℕ)) : Type 0 where
+  pub before : List ℕ
+  pub after : List ℕ
+  pub size : ℕ
+  pub prints : PrintsPlan (taken input) before after size
+  pub bytes : AppendsFront old new (take size after)

@@ -1,5 +1,5 @@
 -- What owning an array tells of its lists: `search (needs, is-grid)` or `shaped s _ c.good.0`, where s is the first parameter.
-use mathlib.Core.Path.{◌≡◌, sym, ◌∙◌}
+use mathlib.Core.Path.{◌≡◌, ◌∙◌}
 use mathlib.Core.List.{List, [], ◌∷◌, map}
 use Prim.Native.Nat.{ℕ, zero, suc, ◌<◌}
 use native.Mathlib.Omega.{arith}
@@ -9,7 +9,7 @@ use mir.Syntax.{w16}
 use denote.Array.{each, in_array}
 use denote.Plain.{UInt}
 use denote.Shadow.{shadow}
-use borrow.Author.Rules.{elem_Fits, elem_fits_field, length_unmapped, rules}
+use borrow.Author.Rules.{elem_Fits, rules}
 use Rattle.model.specs.Book.{Grid, cell, Shaped}
 use Rattle.sheet.specs.declared.Row.{Row}
 use Rattle.sheet.specs.declared.Sheet.{Sheet}

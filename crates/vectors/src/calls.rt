@@ -8,6 +8,7 @@ use say::{
     checked, front, numbers, replied, say_buffer, say_count, say_hex, say_named, say_number,
     say_refusal, say_reply, say_text,
 };
+use std::io::{self, Write};
 
 // The file of a line: its length is the second number, and its fields are the numbers after that.
 pub fn file_in(numbers: &[u8]) -> &[u8] {
@@ -54,107 +55,105 @@ pub fn day_in(numbers: &[u8]) -> Day {
     Day::new(book, caps, numbers::at(numbers, 1) == 1, sheet)
 }
 
-pub fn write(day: Day, out: &mut [u8]) {
-    say_reply(replied(writer::write(out, day)));
-    say_buffer(out);
+pub fn write<W: Write>(to: &mut W, day: Day, out: &mut [u8]) -> io::Result<()> {
+    say_reply(to, replied(writer::write(out, day)))?;
+    say_buffer(to, out)
 }
 
 // A file is read and, where it is accepted, written again.
-pub fn read(file: &[u8], out: &mut [u8]) {
+pub fn read<W: Write>(to: &mut W, file: &[u8], out: &mut [u8]) -> io::Result<()> {
     let reading = reader::read(file);
     let check = reading.check;
     let r = checked(check);
     if r.taken {
-        say_text(b"taken, written again ");
-        write(reading.day, out);
-        return;
+        say_text(to, b"taken, written again ")?;
+        return write(to, reading.day, out);
     }
-    say_refusal(r.number, r.at);
-    say_text(b"\n");
+    say_refusal(to, r.number, r.at)?;
+    say_text(to, b"\n")
 }
 
 // A refusal; or a mark, and each number that comes with it: the others are 0.
-fn say_marking(m: Numbers) {
+fn say_marking<W: Write>(to: &mut W, m: Numbers) -> io::Result<()> {
     if m.mark == 0 {
-        say_refusal(m.refusal, m.offset);
-        return;
+        return say_refusal(to, m.refusal, m.offset);
     }
-    say_named(b"mark ", m.mark as usize);
-    say_named(b", window ", m.window);
-    say_named(b" seat ", m.seat);
-    say_named(b", moves ", m.moves);
+    say_named(to, b"mark ", m.mark as usize)?;
+    say_named(to, b", window ", m.window)?;
+    say_named(to, b" seat ", m.seat)?;
+    say_named(to, b", moves ", m.moves)
 }
 
-pub fn mark(file: &[u8], out: &mut [u8]) {
-    say_marking(marker::mark(file, out).numbers());
-    say_buffer(out);
+pub fn mark<W: Write>(to: &mut W, file: &[u8], out: &mut [u8]) -> io::Result<()> {
+    say_marking(to, marker::mark(file, out).numbers())?;
+    say_buffer(to, out)
 }
 
-pub fn plan(file: &[u8], out: &mut [u8]) {
-    say_reply(replied(planner::plan(file, out)));
-    say_buffer(out);
+pub fn plan<W: Write>(to: &mut W, file: &[u8], out: &mut [u8]) -> io::Result<()> {
+    say_reply(to, replied(planner::plan(file, out)))?;
+    say_buffer(to, out)
 }
 
 // The listing of a file, whole.
-pub fn list(file: &[u8], out: &mut [u8]) {
+pub fn list<W: Write>(to: &mut W, file: &[u8], out: &mut [u8]) -> io::Result<()> {
     let r = replied(listing::listing(file, out));
-    say_reply(r);
-    say_text(b"\n");
-    say_text(front(out, r.length));
+    say_reply(to, r)?;
+    say_text(to, b"\n")?;
+    say_text(to, front(out, r.length))
 }
 
-fn say_sheet(name: &[u8], file: &[u8]) {
+fn say_sheet<W: Write>(to: &mut W, name: &[u8], file: &[u8]) -> io::Result<()> {
     let span = better::sheet_span(file);
-    say_text(name);
-    say_named(b", start ", span.start);
-    say_named(b" length ", span.length);
+    say_text(to, name)?;
+    say_named(to, b", start ", span.start)?;
+    say_named(to, b" length ", span.length)
 }
 
 // A refusal and the file that it is of, if it is of one; or the file that is chosen, and where its sheet lies. Then what is handed back.
-pub fn better<'a>(first: &'a [u8], second: &'a [u8]) {
+pub fn better<'a, W: Write>(to: &mut W, first: &'a [u8], second: &'a [u8]) -> io::Result<()> {
     match better::choose(first, second) {
         Choice::Refused { file, number, at } => {
-            say_refusal(number, at);
-            say_named(b", file ", file as usize);
+            say_refusal(to, number, at)?;
+            say_named(to, b", file ", file as usize)?;
         }
-        Choice::First => say_sheet(b"first", first),
-        Choice::Second => say_sheet(b"second", second),
+        Choice::First => say_sheet(to, b"first", first)?,
+        Choice::Second => say_sheet(to, b"second", second)?,
     }
-    say_text(b", part ");
-    say_hex(better::better(first, second));
+    say_text(to, b", part ")?;
+    say_hex(to, better::better(first, second))
 }
 
 // A number with its name, 0 too.
-fn say_each(name: &[u8], n: usize) {
-    say_text(name);
-    say_number(n);
+fn say_each<W: Write>(to: &mut W, name: &[u8], n: usize) -> io::Result<()> {
+    say_text(to, name)?;
+    say_number(to, n)
 }
 
 // What is replied to a row of wanted totals, in all of its numbers.
-pub fn fulfil(file: &[u8], row: &[u8], out: &mut [u8]) {
+pub fn fulfil<W: Write>(to: &mut W, file: &[u8], row: &[u8], out: &mut [u8]) -> io::Result<()> {
     let r = FulfilResult::of(fulfil::fulfil(file, row, out));
-    say_each(b"refusal ", r.refusal as usize);
-    say_each(b", offset ", r.offset);
-    say_each(b", length ", r.length);
-    say_each(b", group ", r.group as usize);
-    say_buffer(out);
+    say_each(to, b"refusal ", r.refusal as usize)?;
+    say_each(to, b", offset ", r.offset)?;
+    say_each(to, b", length ", r.length)?;
+    say_each(to, b", group ", r.group as usize)?;
+    say_buffer(to, out)
 }
 
 // One number for each window.
-fn say_windows(numbers: [u32; 24]) {
+fn say_windows<W: Write>(to: &mut W, numbers: [u32; 24]) -> io::Result<()> {
     for w in 0..24usize {
-        say_count(b" ", numbers[w]);
+        say_count(to, b" ", numbers[w])?;
     }
-    say_text(b"\n");
+    say_text(to, b"\n")
 }
 
 // What a plan of a file will take, in all of its numbers.
-pub fn take(file: &[u8]) {
+pub fn take<W: Write>(to: &mut W, file: &[u8]) -> io::Result<()> {
     let r = ForecastResult::of(forecast::forecast(file));
-    say_each(b"refusal ", r.refusal as usize);
-    say_each(b", offset ", r.offset);
-    say_each(b", length ", r.length);
-    say_text(b", placed");
+    say_each(to, b"refusal ", r.refusal as usize)?;
+    say_each(to, b", offset ", r.offset)?;
+    say_each(to, b", length ", r.length)?;
+    say_text(to, b", placed")?;
     let placed = r.placed;
-    say_windows(placed);
+    say_windows(to, placed)
 }

@@ -5,8 +5,8 @@
 ghost use Rattle.std.specs.Prelude.{◌≡◌, ◌<◌, ◌≤◌, length};
 
 use calls::{day_in, file_in, second_in};
-use libc::STDIN_FILENO;
 use say::{numbers, say_text};
+use std::io::{self, BufWriter, Read, Write};
 
 pub mod calls;
 
@@ -14,34 +14,35 @@ pub mod calls;
 const ROOM: usize = 4096;
 
 // A call's answer, by the word's first letter.
-fn answer(word: u8, numbers: &[u8], out: &mut [u8]) {
+fn answer<W: Write>(to: &mut W, word: u8, numbers: &[u8], out: &mut [u8]) -> io::Result<()> {
     let file = file_in(numbers);
     match word {
-        b'r' => calls::read(file, out),
-        b'w' => calls::write(day_in(numbers), out),
-        b'm' => calls::mark(file, out),
-        b'p' => calls::plan(file, out),
-        b'l' => calls::list(file, out),
-        b'b' => calls::better(file, second_in(numbers)),
-        b'f' => calls::fulfil(file, second_in(numbers), out),
-        b't' => calls::take(file),
-        _ => {}
+        b'r' => calls::read(to, file, out),
+        b'w' => calls::write(to, day_in(numbers), out),
+        b'm' => calls::mark(to, file, out),
+        b'p' => calls::plan(to, file, out),
+        b'l' => calls::list(to, file, out),
+        b'b' => calls::better(to, file, second_in(numbers)),
+        b'f' => calls::fulfil(to, file, second_in(numbers), out),
+        b't' => calls::take(to, file),
+        _ => Ok(()),
     }
 }
 
 // A line and the answer to it. Its first number is the length of the output buffer, whose bytes are all 255 before the call.
-fn run(line: &[u8]) {
-    say_text(line);
+fn run<W: Write>(to: &mut W, line: &[u8]) -> io::Result<()> {
+    say_text(to, line)?;
     if line.len() == 0 {
-        return;
+        return Ok(());
     }
     let mut numbers = [0u8; ROOM];
     numbers::read(line, &mut numbers);
     let room = numbers::at(&numbers, 0) as usize;
     let mut out = [255u8; ROOM];
-    if room <= ROOM {
-        answer(line[0], &numbers, &mut out[..room]);
+    if ROOM < room {
+        return Ok(());
     }
+    answer(to, line[0], &numbers, &mut out[..room])
 }
 
 // Where the line that starts at a place ends, its end included.
@@ -59,28 +60,27 @@ fn line_end(text: &[u8], start: usize) -> usize
     i
 }
 
-fn run_all(text: &[u8]) {
+fn run_all<W: Write>(to: &mut W, text: &[u8]) -> io::Result<()> {
     let mut start = 0;
     while start < text.len() {
         let end = line_end(text, start);
-        run(&text[start..end]);
+        run(to, &text[start..end])?;
         start = end;
     }
+    Ok(())
 }
 
 // Room for all vectors, and more.
-fn input_room() -> [u8; 262144]
-    ensures { 262144 ≡ length result }
-{
-    [0; 262144]
-}
+const INPUT_ROOM: usize = 262144;
 
 // Vectors for which there is no room would go unnoticed, so it is said where none is left.
-fn main() {
-    let mut text = input_room();
-    let n = io::read_full(STDIN_FILENO, &mut text);
-    run_all(&text[..n]);
-    if n == text.len() {
-        say_text(b"there may be vectors that were not read\n");
+fn main(rt: HostRuntime) -> io::Result<()> {
+    let mut text = Vec::new(rt.alloc());
+    rt.reader().take(INPUT_ROOM as u64).read_to_end(&mut text)?;
+    let mut to = BufWriter::new(rt.alloc(), io::writer(&rt))?;
+    run_all(&mut to, &text)?;
+    if text.len() == INPUT_ROOM {
+        say_text(&mut to, b"there may be vectors that were not read\n")?;
     }
+    to.flush()
 }

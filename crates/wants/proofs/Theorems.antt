@@ -1,7 +1,7 @@
 -- What callers cite: a sheet with the wanted totals or a group that wants more than it can get, one of the two and never both. Assumes
 -- nothing.
 use mathlib.Core.Path.{◌≡◌, sym, ap, ◌∙◌}
-use mathlib.Core.Logic.{◌⊎◌, inl, inr, ⊎_elim, ◌↔◌}
+use mathlib.Core.Logic.{◌⊎◌, inl, inr, ⊎_elim}
 use Prim.Native.Nat.{ℕ, ◌<◌}
 use native.Mathlib.Decide.{ℕ_discrete}
 use native.Mathlib.Omega.{arith}
@@ -15,7 +15,7 @@ use Rattle.masks.specs.Sets.{bit, In}
 use Rattle.masks.proofs.Laws.{bit-zero, collected}
 use Rattle.model.specs.Book.{Book, cell, seats, windows, instance_of}
 use Rattle.model.proofs.Grids.{grid_of, grid_of-cell, grid_of-shaped}
-use Rattle.wants.specs.Wanted.{Gives, Fulfillable, Overasks}
+use Rattle.wants.specs.Wanted.{Fulfillable, Overasks}
 
 -- the empty group wants nothing
 pub not_empty : (I : Instance) (wants : ℕ → ℕ) → Overasks I wants 0 → ⊥

@@ -1,4 +1,3 @@
-use borrow.Author.Rules.{rules}
 use Rattle.dayfile.proofs.Tests.{keeps, fails}
 use Rattle.dayfile.proofs.outside_at.Goals as goal
 

@@ -1,6 +1,5 @@
 use mathlib.Core.Bool.{Bool, not, ◌&&◌, ◌||◌}
-use mathlib.Core.Path.{◌≡◌, ap}
-use borrow.Author.Rules.{rules}
+use mathlib.Core.Path.{ap}
 use lib.Dec.{ltb}
 use Rattle.dayfile.proofs.right_after.Goals as goal
 

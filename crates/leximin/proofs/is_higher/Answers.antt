@@ -1,12 +1,10 @@
 -- `leximin::is_higher` meets its contract. Up to place i the two lists are equal.
-use borrow.Author.Rules.{rules}
 use mathlib.Core.Path.{refl, sym}
 use mathlib.Core.Bool.{true≢false}
-use Prim.Native.Nat.{◌-◌}
 use native.Mathlib.Omega.{arith}
 use Rattle.lists.proofs.Alls.{up_to}
-use Rattle.leximin.specs.Levels.{level_at, list_in}
-use Rattle.leximin.proofs.Orders.{Even, below, not-below, higher-at, lower-at, even-not-higher}
+use Rattle.leximin.specs.Levels.{list_in}
+use Rattle.leximin.proofs.Orders.{below, not-below, higher-at, lower-at, even-not-higher}
 use Rattle.leximin.proofs.is_higher.Goals as goal
 
 pub loop-i-init : goal.loop-i-init
@@ -20,11 +18,10 @@ is_below-requires c =
 
 pub returns-then-is_below : goal.returns-then-is_below
 unfolding list_in
-returns-then-is_below c =
-    (
-      λ e. higher-at _ _ _ _ c.loop-i.invariant c.loop-i-test.true (below _ _ c.is_below.ensures c.if-is_below.true),
-      λ h. refl,
-    )
+returns-then-is_below c = (
+  λ e. higher-at _ _ _ _ c.loop-i.invariant c.loop-i-test.true (below _ _ c.is_below.ensures c.if-is_below.true),
+  λ h. refl,
+)
 
 pub is_below-requires-in-loop-i : goal.is_below-requires-in-loop-i
 is_below-requires-in-loop-i c =
@@ -33,12 +30,11 @@ is_below-requires-in-loop-i c =
 
 pub returns-then-is_below-2 : goal.returns-then-is_below-2
 unfolding list_in
-returns-then-is_below-2 c =
-    (
-      λ e. absurd (true≢false (sym e)),
-      λ h. absurd (lower-at _ _ _ _ c.loop-i.invariant c.loop-i-test.true
-          (below _ _ c.is_below-in-loop-i.ensures c.if-is_below-2.true) h),
-    )
+returns-then-is_below-2 c = (
+  λ e. absurd (true≢false (sym e)),
+  λ h. absurd (lower-at _ _ _ _ c.loop-i.invariant c.loop-i-test.true
+      (below _ _ c.is_below-in-loop-i.ensures c.if-is_below-2.true) h),
+)
 
 pub loop-i-preserved : goal.loop-i-preserved
 loop-i-preserved c =

@@ -1,5 +1,4 @@
 -- `masks::full` meets its contract.
-use borrow.Author.Rules.{rules}
 use native.Mathlib.Omega.{arith}
 use Rattle.masks.proofs.Machine.{power-is, full_is}
 use Rattle.masks.proofs.full.Goals as goal

@@ -1,5 +1,4 @@
 -- `masks::has` meets its contract.
-use borrow.Author.Rules.{rules}
 use Prim.Native.Nat.{ℕ, ◌^◌, ◌/◌}
 use mathlib.Core.Path.{ap}
 use lib.Dec.{eqb}

@@ -1,5 +1,4 @@
 -- `masks::insert` meets its contract.
-use borrow.Author.Rules.{rules}
 use Rattle.masks.proofs.Machine.{insert-is}
 use Rattle.masks.proofs.insert.Goals as goal
 

@@ -1,5 +1,4 @@
 -- `masks::remove_lowest` meets its contract.
-use borrow.Author.Rules.{rules}
 use Rattle.masks.proofs.Machine.{drop-lowest}
 use Rattle.masks.proofs.remove_lowest.Goals as goal
 

@@ -1,5 +1,4 @@
 -- `masks::with` meets its contract.
-use borrow.Author.Rules.{rules}
 use mathlib.Core.Path.{sym, ◌∙◌}
 use mathlib.Core.Bool.{true≢false}
 use Rattle.masks.proofs.with.Goals as goal

@@ -1,12 +1,11 @@
 -- `paths::column` meets its contract.
 use borrow.Author.Rules.{rules}
 use mathlib.Core.Path.{◌≡◌}
-
-use Prim.Native.Nat.{ℕ, ◌-◌, ◌≤◌}
+use Prim.Native.Nat.{ℕ}
 use native.Mathlib.Omega.{arith}
 use lib.ListN.{length}
 use Rattle.masks.specs.Sets.{In}
-use Rattle.reach.specs.Graphs.{set_at, Collects}
+use Rattle.reach.specs.Graphs.{set_at}
 use Rattle.reach.proofs.Members.{has_in, has-out}
 use Rattle.reach.proofs.Collect.{collect-first, collect-in, collect-out}
 use Rattle.paths.proofs.column.Goals as goal

@@ -1,13 +1,7 @@
-use borrow.Author.Rules.{rules}
 use mathlib.Core.Path.{◌≡◌}
 use Prim.Native.Nat.{ℕ, ◌-◌, ◌<◌}
-use native.Mathlib.Omega.{arith}
-use borrow.Author.Count.{below_more}
-use borrow.Author.Tests.{not-true, not-false}
 use Rattle.masks.specs.Sets.{bit}
 use Rattle.reach.specs.Graphs.{set_at}
-use Rattle.reach.proofs.Members.{has_in, has-out, out-zero}
-use Rattle.paths.proofs.Meeting.{before-end}
 use Rattle.paths.proofs.fewest.Given as goal
 
 abbrev pub invariant-loop-sets : goal.invariant-loop-sets

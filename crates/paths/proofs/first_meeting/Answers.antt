@@ -1,9 +1,7 @@
 -- `paths::first_meeting` meets its contract.
 use borrow.Author.Rules.{rules}
-use Prim.Native.Nat.{ℕ, ◌-◌, ◌≤◌, ◌<◌}
 use native.Mathlib.Omega.{arith}
 use borrow.Author.Count.{below_more}
-use lib.ListN.{length}
 use Rattle.paths.specs.Layers.{Meets}
 use Rattle.reach.proofs.Members.{has_in, has-out, at_small}
 use Rattle.paths.proofs.Meeting.{meeting, not-meeting}

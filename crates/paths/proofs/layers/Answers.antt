@@ -2,9 +2,9 @@
 use borrow.Author.Rules.{rules}
 use mathlib.Core.Path.{◌≡◌, refl}
 use mathlib.Core.Bool.{false, true≢false}
-use Prim.Native.Nat.{◌+◌, ◌-◌}
-use Rattle.lists.proofs.Arrays.{Filled, filled-first, filled_next, filled_at}
-use Rattle.reach.specs.Graphs.{Layer, Spread}
+use Prim.Native.Nat.{◌+◌}
+use Rattle.lists.proofs.Arrays.{filled-first, filled_next, filled_at}
+use Rattle.reach.specs.Graphs.{Spread}
 use Rattle.reach.proofs.Waves.{still, not_more}
 use Rattle.paths.proofs.layers.Goals as goal
 use Rattle.paths.proofs.layers.Goals.{then-growing, else-growing}

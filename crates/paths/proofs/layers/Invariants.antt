@@ -1,11 +1,8 @@
-use borrow.Author.Rules.{rules}
-use mathlib.Core.Path.{◌≡◌, refl}
-use mathlib.Core.Bool.{false, true≢false}
-use mathlib.Core.Logic.{⊎_elim}
-use Prim.Native.Nat.{◌+◌, ◌-◌}
-use Rattle.lists.proofs.Arrays.{Filled, filled-first, filled_next, filled_at}
+use mathlib.Core.Path.{◌≡◌}
+use mathlib.Core.Bool.{false}
+use Prim.Native.Nat.{◌-◌}
+use Rattle.lists.proofs.Arrays.{Filled}
 use Rattle.reach.specs.Graphs.{Layer, Spread}
-use Rattle.reach.proofs.Waves.{still, not_more}
 use Rattle.paths.proofs.layers.Given as goal
 
 abbrev pub invariant-loop-n : goal.invariant-loop-n

@@ -3,15 +3,14 @@ use borrow.Author.Rules.{rules}
 use mathlib.Core.Path.{◌≡◌, refl}
 use Prim.Native.Nat.{suc, ◌-◌, ◌≤◌, ◌<◌}
 use native.Mathlib.Omega.{arith}
-use lib.ListN.{length, take, drop, replicate, length-set}
+use lib.ListN.{length, take, replicate, length-set}
 use mir.Val.{Fits}
 use mir.Syntax.{w32}
 use Rattle.lists.proofs.Alls.{taken-length}
 use Rattle.sheet.specs.Sheets.{move_of}
 use Rattle.masks.proofs.Laws.{in_small}
 use Rattle.reach.specs.Graphs.{set_at}
-use Rattle.paths.specs.Layers.{Fewest}
-use Rattle.paths.proofs.Walking.{Walk, back, back-fewest, step_back, stored-none, walked}
+use Rattle.paths.proofs.Walking.{back, back-fewest, step_back, stored-none, walked}
 use Rattle.paths.proofs.moves_to.Goals as goal
 
 pub loop-r-init : goal.loop-r-init

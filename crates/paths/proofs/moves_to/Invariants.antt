@@ -1,16 +1,8 @@
-use borrow.Author.Rules.{rules}
-use mathlib.Core.Path.{◌≡◌, refl}
-use Prim.Native.Nat.{suc, ◌-◌, ◌≤◌, ◌<◌}
-use native.Mathlib.Omega.{arith}
-use lib.ListN.{length, take, drop, replicate, length-set}
-use mir.Val.{Fits}
-use mir.Syntax.{w32}
-use Rattle.lists.proofs.Alls.{taken-length}
-use Rattle.sheet.specs.Sheets.{move_of}
-use Rattle.masks.proofs.Laws.{in_small}
-use Rattle.reach.specs.Graphs.{set_at}
+use mathlib.Core.Path.{◌≡◌}
+use Prim.Native.Nat.{◌≤◌, ◌<◌}
+use lib.ListN.{length, take, drop}
 use Rattle.paths.specs.Layers.{Fewest}
-use Rattle.paths.proofs.Walking.{Walk, back, back-fewest, step_back, stored-none, walked}
+use Rattle.paths.proofs.Walking.{Walk}
 use Rattle.paths.proofs.moves_to.Given as goal
 
 abbrev pub invariant-loop-r : goal.invariant-loop-r

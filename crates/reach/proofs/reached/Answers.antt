@@ -1,8 +1,7 @@
 -- `reach::reached` meets its contract.
 use borrow.Author.Rules.{rules}
-use Prim.Native.Nat.{ℕ, ◌+◌}
-use Rattle.reach.specs.Graphs.{Spread}
-use Rattle.reach.proofs.Waves.{last, ahead, ahead-less}
+use Prim.Native.Nat.{◌+◌}
+use Rattle.reach.proofs.Waves.{last, ahead-less}
 use Rattle.reach.proofs.reached.Goals as goal
 
 pub loop-wave-init : goal.loop-wave-init

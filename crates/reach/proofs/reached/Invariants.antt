@@ -1,7 +1,6 @@
-use borrow.Author.Rules.{rules}
-use Prim.Native.Nat.{ℕ, ◌+◌}
+use Prim.Native.Nat.{ℕ}
 use Rattle.reach.specs.Graphs.{Spread}
-use Rattle.reach.proofs.Waves.{last, ahead, ahead-less}
+use Rattle.reach.proofs.Waves.{ahead}
 use Rattle.reach.proofs.reached.Given as goal
 
 abbrev pub invariant-loop-wave : goal.invariant-loop-wave

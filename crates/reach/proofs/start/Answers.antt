@@ -1,5 +1,4 @@
 -- `reach::start` meets its contract.
-use borrow.Author.Rules.{rules}
 use Rattle.reach.proofs.Waves.{first}
 use Rattle.reach.proofs.start.Goals as goal
 

@@ -3,9 +3,8 @@ use borrow.Author.Rules.{rules}
 use Prim.Native.Nat.{◌<◌}
 use native.Mathlib.Omega.{arith}
 use lib.ListN.{length}
-use Rattle.masks.specs.Sets.{size_of}
 use Rattle.masks.proofs.Laws.{removed-shrinks}
-use Rattle.reach.proofs.Unions.{Passed, first, member, joined, last}
+use Rattle.reach.proofs.Unions.{first, member, joined, last}
 use Rattle.reach.proofs.union_over.Goals as goal
 
 pub offset_bounds-sets-i : goal.offset_bounds-sets-i

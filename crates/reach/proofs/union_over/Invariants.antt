@@ -1,10 +1,5 @@
-use borrow.Author.Rules.{rules}
-use Prim.Native.Nat.{◌<◌}
-use native.Mathlib.Omega.{arith}
-use lib.ListN.{length}
 use Rattle.masks.specs.Sets.{size_of}
-use Rattle.masks.proofs.Laws.{removed-shrinks}
-use Rattle.reach.proofs.Unions.{Passed, first, member, joined, last}
+use Rattle.reach.proofs.Unions.{Passed}
 use Rattle.reach.proofs.union_over.Given as goal
 
 abbrev pub invariant-loop-left : goal.invariant-loop-left

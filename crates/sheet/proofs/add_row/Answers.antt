@@ -1,11 +1,9 @@
 -- `sheet::add_row` meets its contract. Each turn adds one cell.
 use borrow.Author.Rules.{rules}
-use Prim.Native.Nat.{ℕ, ◌-◌}
 use mathlib.Core.Path.{◌≡◌}
 use native.Mathlib.Omega.{arith}
 use lib.ListN.{get_or}
-use Rattle.lists.proofs.Arrays.{Filled, filled-first, filled_next, filled_at}
-use Rattle.sheet.specs.Sheets.{Added}
+use Rattle.lists.proofs.Arrays.{filled-first, filled_next, filled_at}
 use Rattle.sheet.proofs.add_row.Goals as goal
 
 pub loop-j-init : goal.loop-j-init

@@ -1,9 +1,6 @@
-use borrow.Author.Rules.{rules}
 use Prim.Native.Nat.{ℕ, ◌-◌}
-use mathlib.Core.Path.{◌≡◌}
-use native.Mathlib.Omega.{arith}
 use lib.ListN.{get_or}
-use Rattle.lists.proofs.Arrays.{Filled, filled-first, filled_next, filled_at}
+use Rattle.lists.proofs.Arrays.{Filled}
 use Rattle.sheet.specs.Sheets.{Added}
 use Rattle.sheet.proofs.add_row.Given as goal
 

@@ -1,11 +1,9 @@
 -- `sheet::placed` meets its contract. Each turn adds one seat's cells.
 use borrow.Author.Rules.{rules}
-use Prim.Native.Nat.{ℕ, ◌*◌, ◌-◌, ◌≤◌, ◌<◌, zero-le}
+use Prim.Native.Nat.{◌<◌, zero-le}
 use mathlib.Core.Path.{◌≡◌, sym, ◌∙◌}
 use native.Mathlib.Numerals.{add-one}
 use native.Mathlib.Omega.{arith}
-use lib.ListN.{get_or}
-use Rattle.fairness.specs.Sums.{sum}
 use Rattle.fairness.proofs.Sums.{sum-zero, sum-suc}
 use Rattle.lists.proofs.Arrays.{zeros-at}
 use Rattle.model.specs.Book.{cell}

@@ -1,12 +1,7 @@
-use borrow.Author.Rules.{rules}
-use Prim.Native.Nat.{ℕ, ◌*◌, ◌-◌, ◌≤◌, ◌<◌, zero-le}
-use mathlib.Core.Path.{◌≡◌, sym, ◌∙◌}
-use native.Mathlib.Numerals.{add-one}
-use native.Mathlib.Omega.{arith}
+use Prim.Native.Nat.{ℕ, ◌*◌, ◌-◌, ◌≤◌, ◌<◌}
+use mathlib.Core.Path.{◌≡◌}
 use lib.ListN.{get_or}
 use Rattle.fairness.specs.Sums.{sum}
-use Rattle.fairness.proofs.Sums.{sum-zero, sum-suc}
-use Rattle.lists.proofs.Arrays.{zeros-at}
 use Rattle.model.specs.Book.{cell}
 use Rattle.sheet.proofs.placed.Given as goal
 

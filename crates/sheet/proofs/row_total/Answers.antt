@@ -1,9 +1,7 @@
 -- `sheet::row_total` meets its contract. Each turn adds one cell.
 use borrow.Author.Rules.{rules}
-use Prim.Native.Nat.{◌-◌}
 use native.Mathlib.Omega.{arith}
-use lib.ListN.{get_or}
-use Rattle.sheet.proofs.Sums.{Summed, first, next, last, last-most}
+use Rattle.sheet.proofs.Sums.{first, next, last, last-most}
 use Rattle.sheet.proofs.row_total.Goals as goal
 
 pub loop-w-preserved : goal.loop-w-preserved

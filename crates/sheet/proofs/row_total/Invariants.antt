@@ -1,8 +1,6 @@
-use borrow.Author.Rules.{rules}
 use Prim.Native.Nat.{◌-◌}
-use native.Mathlib.Omega.{arith}
 use lib.ListN.{get_or}
-use Rattle.sheet.proofs.Sums.{Summed, first, next, last, last-most}
+use Rattle.sheet.proofs.Sums.{Summed}
 use Rattle.sheet.proofs.row_total.Given as goal
 
 abbrev pub invariant-loop-w : goal.invariant-loop-w

@@ -1,9 +1,7 @@
 -- `text::put_bytes` meets its contract.
 use borrow.Author.Rules.{rules}
-use Prim.Native.Nat.{◌-◌}
 use native.Mathlib.Omega.{arith}
-use lib.ListN.{length}
-use Rattle.lists.proofs.Buffers.{Copied, copied-first, copied_next, copied-end}
+use Rattle.lists.proofs.Buffers.{copied-first, copied_next, copied-end}
 use Rattle.text.proofs.put_bytes.Goals as goal
 
 pub loop-i-init : goal.loop-i-init

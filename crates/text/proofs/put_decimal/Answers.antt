@@ -1,5 +1,4 @@
 -- `text::put_decimal` meets its contract.
-use borrow.Author.Rules.{rules}
 use mathlib.Core.Path.{sym}
 use Rattle.lists.proofs.Buffers.{room_as, stored-as}
 use Rattle.text.proofs.Digits.{decimal-in}

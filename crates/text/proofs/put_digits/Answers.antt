@@ -1,7 +1,7 @@
 -- `text::put_digits` meets its contract.
 use borrow.Author.Rules.{rules}
 use native.Mathlib.Omega.{arith}
-use Rattle.text.proofs.Loops.{Writing, writing-none, writing_more, writing-all}
+use Rattle.text.proofs.Loops.{writing-none, writing_more, writing-all}
 use Rattle.text.proofs.put_digits.Goals as goal
 
 pub loop-i-init : goal.loop-i-init

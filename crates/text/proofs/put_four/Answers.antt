@@ -1,5 +1,4 @@
 -- `text::put_four` meets its contract.
-use borrow.Author.Rules.{rules}
 use Rattle.text.specs.Text.{four_digits}
 use Rattle.text.proofs.put_four.Goals as goal
 

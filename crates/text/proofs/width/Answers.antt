@@ -1,9 +1,6 @@
 -- `text::width` meets its contract. A number below 2 ^ 64 has at most 20 digits.
 use borrow.Author.Rules.{rules}
-use mathlib.Core.Path.{◌≡◌}
-use Prim.Native.Nat.{◌+◌, ◌≤◌}
 use native.Mathlib.Omega.{arith}
-use Rattle.text.specs.Text.{width_of}
 use Rattle.text.proofs.Digits.{width_one, width-more, width-le}
 use Rattle.text.proofs.width.Goals as goal
 

@@ -1,5 +1,4 @@
 -- `sheet::Sheet::placed` meets its contract: the sums of its grid.
-use borrow.Author.Rules.{rules}
 use mathlib.Core.Path.{◌∙◌}
 use Rattle.sheet.proofs.Cells.{placed-is}
 use Rattle.sheet.proofs.Sheet.placed.Goals as goal

@@ -1,5 +1,4 @@
 -- `sheet::Sheet::play` meets its contract.
-use borrow.Author.Rules.{rules}
 use native.Mathlib.Omega.{arith}
 use Rattle.sheet.specs.Sheets.{move_of}
 use Rattle.sheet.proofs.Moves.{taker-le, play-is}

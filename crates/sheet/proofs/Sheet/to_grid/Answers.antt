@@ -1,11 +1,7 @@
 -- `sheet::Sheet::to_grid` meets its contract. Each turn copies one row.
 use borrow.Author.Rules.{rules}
-use Prim.Native.Nat.{◌-◌}
-use mathlib.Core.Path.{◌≡◌, refl, sym}
-use mathlib.Core.List.{[]}
-use lib.ListN.{get_or}
-use Rattle.lists.proofs.Arrays.{Filled, filled-first, filled_next, filled_copy}
-use Rattle.sheet.specs.Sheets.{grid_of}
+use mathlib.Core.Path.{refl, sym}
+use Rattle.lists.proofs.Arrays.{filled-first, filled_next, filled_copy}
 use Rattle.sheet.proofs.Cells.{row_is}
 use Rattle.sheet.proofs.Shapes.{shaped}
 use Rattle.sheet.proofs.Sheet.to_grid.Goals as goal

@@ -1,12 +1,9 @@
-use borrow.Author.Rules.{rules}
 use Prim.Native.Nat.{◌-◌}
-use mathlib.Core.Path.{◌≡◌, refl, sym}
+use mathlib.Core.Path.{◌≡◌}
 use mathlib.Core.List.{[]}
 use lib.ListN.{get_or}
-use Rattle.lists.proofs.Arrays.{Filled, filled-first, filled_next, filled_copy}
+use Rattle.lists.proofs.Arrays.{Filled}
 use Rattle.sheet.specs.Sheets.{grid_of}
-use Rattle.sheet.proofs.Cells.{row_is}
-use Rattle.sheet.proofs.Shapes.{shaped}
 use Rattle.sheet.proofs.Sheet.to_grid.Given as goal
 
 abbrev pub invariant-loop-i : goal.invariant-loop-i
