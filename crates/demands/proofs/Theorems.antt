@@ -12,7 +12,7 @@ use Rattle.demands.proofs.Files.{reads_back, same_bytes}
 use Rattle.demands.proofs.Better.{inside, same_sheet, not_lower, passes}
 use Rattle.demands.proofs.Fairness.{passes_exactly, passing_highest, fails, planned, planned_passes}
 use Rattle.demands.proofs.Standard as standard
-use Rattle.demands.proofs.Wanted.{document_cap, told_apart, kept, sheet-read}
+use Rattle.demands.proofs.Wanted.{is_document_cap, told_apart, kept, sheet-read}
 use Rattle.demands.proofs.Idle as idle
 use Rattle.demands.proofs.Forecast.{told_ahead, asks, same_refusal, room_suffices, too_short}
 
@@ -59,7 +59,7 @@ sheet-or-group =
     record {
       one_is = λ b row. wants.sheet-or-group b (want row);
       not_both = λ b row. wants.never_both b (want row);
-      document_cap = document_cap;
+      is_document_cap = is_document_cap;
       not_empty = λ b row. wants.not_empty (instance_of b) (want row);
       told_apart = told_apart;
       kept = kept;

@@ -32,8 +32,8 @@ use Rattle.demands.proofs.Files.{taken}
 
 -- ---- document 000's cap
 
-pub document_cap : (I : Instance) (group : ℕ) → group_capacity I (λ a. ℕ_discrete (bit group a) 1) ≡ document_cap I group
-document_cap I group =
+pub is_document_cap : (I : Instance) (group : ℕ) → group_capacity I (λ a. ℕ_discrete (bit group a) 1) ≡ document_cap I group
+is_document_cap I group =
     sum-eq I.windows _ _
     (λ b lb.
     let all = sum-le I.seats (λ a. keep (ℕ_discrete (bit group a) 1) (I.cap a b)) (λ a. I.cap a b)

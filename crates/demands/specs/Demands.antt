@@ -209,7 +209,7 @@ pub record SheetOrGroup : Type 0 where
   pub one_is : (b : Book) (row : List ℕ) → Fulfillable b (want row) ⊎ ((g : ℕ) × Overasks (instance_of b) (want row) g)
   pub not_both : (b : Book) (row : List ℕ) → Fulfillable b (want row) → (g : ℕ) → Overasks (instance_of b) (want row) g → ⊥
   -- what a group can get is document 000's cap of it
-  pub document_cap : (I : Instance) (group : ℕ) → group_capacity I (λ a. ℕ_discrete (bit group a) 1) ≡ document_cap I group
+  pub is_document_cap : (I : Instance) (group : ℕ) → group_capacity I (λ a. ℕ_discrete (bit group a) 1) ≡ document_cap I group
   -- a group is never empty, so where no line holds C tells a sheet by a group of 0
   pub not_empty : (b : Book) (row : List ℕ) → Overasks (instance_of b) (want row) 0 → ⊥
   pub told_apart : (file row before after : List ℕ) (r : Reply) → Fulfils file row before after r →

@@ -1,7 +1,4 @@
 -- From what the listing and the planner say to what is printed: it fits the buffer, and the listing is never refused. Assumes nothing.
-use Rattle.std.specs.Prelude.{[], ◌++◌, take, IfSome, Some, None}
-use Rattle.std.specs.declared.option.Option.{Option}
-use Rattle.std.specs.Option.{option_map}
 use mathlib.Core.Path.{◌≡◌, refl, ap}
 use mathlib.Core.List.{List}
 use Prim.Native.Nat.{ℕ, ◌≤◌}
@@ -19,7 +16,7 @@ use Rattle.listing.specs.Listing.{listing_max}
 use Rattle.listing.specs.Calls.{Lists}
 use Rattle.planner.specs.Planning.{Plans}
 use Rattle.planner.proofs.Theorems as planner
-use Rattle.output.specs.Output.{PrintsPlan, taken}
+use Rattle.output.specs.Output.{PrintsPlan}
 
 -- a text at a buffer's front is no longer than the buffer afterwards
 front_fits : (text before after : List ℕ) → after ≡ front text before → length text ≤ length after
@@ -78,14 +75,3 @@ prints-refusal file before planned after r number at n plans e printed =
       plans = rw e at plans;
       prints = (printed.size, printed.buffer);
     }
-
--- ---- the input
-
--- what a reader with a limit gave, of the reader under it
-pub taken-whole : (limit : ℕ) (under whole : Option (List ℕ)) (start items : List ℕ) → limit ≡ 65536 → under ≡ whole → start ≡ [] →
-    IfSome (option_map (take limit) under) (λ xs. items ≡ start ++ xs) → IfSome whole (λ input. items ≡ taken input)
-taken-whole limit under whole start items l u s p = go whole (rw (l, u, s) at p)
-  where
-    go : (o : Option (List ℕ)) → IfSome (option_map (take 65536) o) (λ xs. items ≡ [] ++ xs) → IfSome o (λ input. items ≡ taken input)
-    go None p = tt
-    go (Some input) p = p

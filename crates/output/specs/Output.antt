@@ -29,7 +29,11 @@ pub record PrintsPlan (file before after : List ℕ) (r : ℕ) : Type 0 where
 abbrev pub taken : List ℕ → List ℕ
 taken input = take 65536 input
 
--- what `mark` adds to its output, whose bytes are known or not: the front of a buffer, the listing of what it takes
+-- a writer, whose bytes are known or not, took a front of these bytes
+abbrev pub AppendsFront : (old new : Option (List ℕ)) → List ℕ → Type 0
+AppendsFront old new bytes = (n : ℕ) × Appends old new (take n bytes)
+
+-- what `mark` writes: the front of a buffer, the listing of what it takes
 pub record WritesMark (input : List ℕ) (old new : Option (List ℕ)) : Type 0 where
   pub before : List ℕ
   pub after : List ℕ
@@ -37,10 +41,26 @@ pub record WritesMark (input : List ℕ) (old new : Option (List ℕ)) : Type 0 
   pub lists : Lists (taken input) before after (Whole size)
   pub bytes : Appends old new (take size after)
 
--- and `plan`
+-- and where a write fails
+pub record StopsMark (input : List ℕ) (old new : Option (List ℕ)) : Type 0 where
+  pub before : List ℕ
+  pub after : List ℕ
+  pub size : ℕ
+  pub lists : Lists (taken input) before after (Whole size)
+  pub bytes : AppendsFront old new (take size after)
+
+-- what `plan` writes
 pub record WritesPlan (input : List ℕ) (old new : Option (List ℕ)) : Type 0 where
   pub before : List ℕ
   pub after : List ℕ
   pub size : ℕ
   pub prints : PrintsPlan (taken input) before after size
   pub bytes : Appends old new (take size after)
+
+-- and where a write fails
+pub record StopsPlan (input : List ℕ) (old new : Option (List ℕ)) : Type 0 where
+  pub before : List ℕ
+  pub after : List ℕ
+  pub size : ℕ
+  pub prints : PrintsPlan (taken input) before after size
+  pub bytes : AppendsFront old new (take size after)

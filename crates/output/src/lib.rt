@@ -1,14 +1,15 @@
 // What the programs print: all of it is decided here, and each program only hands over its input and its output.
 #![tactic(auto)]
 
-ghost use Rattle.std.specs.Prelude.{◌≡◌, ◌≤◌, length, IfOk, IfSome, OnOk};
+ghost use Rattle.std.specs.Prelude.{◌≡◌, ◌≤◌, ◌⊎◌, length, IfOk, IfSome, OnErr, OnOk};
+ghost use Rattle.std.specs.Io.KnownBytes.{Appends, Keeps};
 ghost use Rattle.dayfile.specs.declared.Written.TheVariants.{Whole};
 ghost use Rattle.listing.specs.Calls.{Lists};
-ghost use Rattle.output.specs.Output.{PrintsPlan, WritesMark, WritesPlan, taken};
+ghost use Rattle.output.specs.Output.{AppendsFront, PrintsPlan, StopsMark, StopsPlan, WritesMark, WritesPlan, taken};
 
 use dayfile::Written;
 use std::alloc::Global;
-use std::io::{self, Read, Write};
+use std::io::{self, ErrorKind, Read, Write};
 
 // A program's output buffer: the longest listing has 3,453 bytes, and the longest file 3,310.
 pub const ROOM: usize = 4096;
@@ -47,22 +48,52 @@ fn taken_of<R: Read + Drop>(alloc: Global, from: R) -> io::Result<Vec<u8>>
     Ok(file)
 }
 
-// The program `mark`. A read or a write that fails ends it with the error, and so does a lack of memory for what is taken.
+// Writes these bytes: all of them or, where a write fails, a front of them.
+fn put_all<W: Write>(to: &mut W, bytes: &[u8]) -> io::Result<()>
+    ensures whole { OnOk result (Appends (W.contents to.old) (W.contents to.new) bytes.now) }
+    ensures front { OnErr result (AppendsFront (W.contents to.old) (W.contents to.new) bytes.now) }
+{
+    let mut rest = bytes;
+    for _ in 0..u64::MAX {
+        if rest.is_empty() {
+            return Ok(());
+        }
+        match to.write(rest) {
+            Ok(0) => return Err(io::Error::from(ErrorKind::WriteZero)),
+            Ok(n) => rest = &rest[n..],
+            Err(e) => {
+                if e.kind() != ErrorKind::Interrupted {
+                    return Err(e);
+                }
+            }
+        }
+    }
+    Err(io::Error::from(ErrorKind::WriteZero))
+}
+
+// The program `mark`. A read that fails, or a lack of memory for what is taken, ends it with the error and nothing is written; a write that
+// fails ends it after a front of what it had to write.
 pub fn mark<R: Read + Drop, W: Write>(alloc: Global, from: R, to: &mut W) -> io::Result<()>
-    ensures { OnOk result (IfSome (R.remaining from) (λ input. WritesMark input (W.contents to.old) (W.contents to.new))) }
+    ensures whole { OnOk result (IfSome (R.remaining from)
+        (λ input. WritesMark input (W.contents to.old) (W.contents to.new))) }
+    ensures front { OnErr result (IfSome (R.remaining from)
+        (λ input. Keeps (W.contents to.old) (W.contents to.new) ⊎ StopsMark input (W.contents to.old) (W.contents to.new))) }
 {
     let file = taken_of(alloc, from)?;
     let mut out = [0u8; ROOM];
     let length = of_mark(&file, &mut out);
-    to.write_all(&out[..length])
+    put_all(to, &out[..length])
 }
 
 // The program `plan`, likewise.
 pub fn plan<R: Read + Drop, W: Write>(alloc: Global, from: R, to: &mut W) -> io::Result<()>
-    ensures { OnOk result (IfSome (R.remaining from) (λ input. WritesPlan input (W.contents to.old) (W.contents to.new))) }
+    ensures whole { OnOk result (IfSome (R.remaining from)
+        (λ input. WritesPlan input (W.contents to.old) (W.contents to.new))) }
+    ensures front { OnErr result (IfSome (R.remaining from)
+        (λ input. Keeps (W.contents to.old) (W.contents to.new) ⊎ StopsPlan input (W.contents to.old) (W.contents to.new))) }
 {
     let file = taken_of(alloc, from)?;
     let mut out = [0u8; ROOM];
     let length = of_plan(&file, &mut out);
-    to.write_all(&out[..length])
+    put_all(to, &out[..length])
 }

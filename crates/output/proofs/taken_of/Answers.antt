@@ -1,6 +1,6 @@
 -- `output::taken_of` meets its contract: the reader under the limit gave all that it had, or as much as the limit.
 use Rattle.std.proofs.Common.{ap}
-use Rattle.output.proofs.Printed.{taken-whole}
+use Rattle.output.proofs.Writes.{taken-whole}
 use Rattle.output.proofs.taken_of.Goals as goal
 
 pub returns : goal.returns
