@@ -1,5 +1,4 @@
 -- `cells::cell_above` meets its contract: line 14 by cases on the entry of kind 4.
-use borrow.Author.Rules.{rules}
 use mathlib.Core.Path.{◌∙◌}
 use native.Mathlib.Omega.{arith}
 use Rattle.dayfile.proofs.Answers.{at-line, no_line, under_at}

@@ -1,5 +1,4 @@
 -- `cells::check_sheet` meets its contract: the three lines as they were looked up.
-use borrow.Author.Rules.{rules}
 use Rattle.dayfile.specs.Table.{marker_lines}
 use Rattle.dayfile.proofs.Lines.{three-as}
 use Rattle.cells.proofs.check_sheet.Goals as goal

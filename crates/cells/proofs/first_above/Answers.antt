@@ -1,16 +1,9 @@
 -- `cells::first_above` meets its contract: no field passed yet is above its fellow.
-use borrow.Author.Rules.{rules}
-use mathlib.Core.Bool.{Bool}
-use mathlib.Core.List.{List}
 use mathlib.Core.Path.{refl, ap}
-use Prim.Native.Nat.{ℕ, ◌+◌, ◌-◌, ◌*◌}
-use lib.Dec.{ltb}
-use Rattle.dayfile.specs.Layout.{field}
 use Rattle.dayfile.specs.Table.{offset}
-use Rattle.dayfile.proofs.Search.{Searching, search-first, search-on, search-hit, search-end}
+use Rattle.dayfile.proofs.Search.{search-first, search-on, search-hit, search-end}
 use Rattle.cells.specs.Firsts.{first_above}
 use Rattle.cells.proofs.Sheets.{is_below, not-below}
-use Rattle.cells.proofs.first_above.Invariants.{above}
 use Rattle.cells.proofs.first_above.Goals as goal
 
 pub loop-i-init : goal.loop-i-init

@@ -1,14 +1,9 @@
-use borrow.Author.Rules.{rules}
 use mathlib.Core.Bool.{Bool}
 use mathlib.Core.List.{List}
-use mathlib.Core.Path.{refl, ap}
 use Prim.Native.Nat.{ℕ, ◌+◌, ◌-◌, ◌*◌}
 use lib.Dec.{ltb}
 use Rattle.dayfile.specs.Layout.{field}
-use Rattle.dayfile.specs.Table.{offset}
-use Rattle.dayfile.proofs.Search.{Searching, search-first, search-on, search-hit, search-end}
-use Rattle.cells.specs.Firsts.{first_above}
-use Rattle.cells.proofs.Sheets.{is_below, not-below}
+use Rattle.dayfile.proofs.Search.{Searching}
 use Rattle.cells.proofs.first_above.Given as goal
 
 abbrev pub above : List ℕ → ℕ → ℕ → ℕ → Bool

@@ -1,17 +1,11 @@
 -- `cells::first_over` meets its contract: no window passed yet is over its supply.
-use borrow.Author.Rules.{rules}
-use mathlib.Core.Bool.{Bool}
-use mathlib.Core.List.{List}
 use mathlib.Core.Option.{some}
 use mathlib.Core.Path.{ap, ◌∙◌}
-use Prim.Native.Nat.{ℕ, ◌+◌, ◌-◌, ◌*◌}
-use lib.Dec.{ltb}
-use Rattle.dayfile.specs.Layout.{field, windows_in}
-use Rattle.dayfile.specs.Table.{cell_at, placed_in, offset}
-use Rattle.dayfile.proofs.Search.{Searching, search-first, search-on, search-hit, search-end}
+use Prim.Native.Nat.{ℕ, ◌+◌, ◌*◌}
+use Rattle.dayfile.specs.Table.{offset}
+use Rattle.dayfile.proofs.Search.{search-first, search-on, search-hit, search-end}
 use Rattle.cells.specs.Firsts.{first_over}
 use Rattle.cells.proofs.Sheets.{is_below, not-below, supply-at}
-use Rattle.cells.proofs.first_over.Invariants.{over}
 use Rattle.cells.proofs.first_over.Goals as goal
 
 pub loop-j-init : goal.loop-j-init

@@ -1,15 +1,10 @@
-use borrow.Author.Rules.{rules}
 use mathlib.Core.Bool.{Bool}
 use mathlib.Core.List.{List}
-use mathlib.Core.Option.{some}
-use mathlib.Core.Path.{ap, ◌∙◌}
-use Prim.Native.Nat.{ℕ, ◌+◌, ◌-◌, ◌*◌}
+use Prim.Native.Nat.{ℕ, ◌-◌}
 use lib.Dec.{ltb}
 use Rattle.dayfile.specs.Layout.{field, windows_in}
-use Rattle.dayfile.specs.Table.{cell_at, placed_in, offset}
-use Rattle.dayfile.proofs.Search.{Searching, search-first, search-on, search-hit, search-end}
-use Rattle.cells.specs.Firsts.{first_over}
-use Rattle.cells.proofs.Sheets.{is_below, not-below, supply-at}
+use Rattle.dayfile.specs.Table.{cell_at, placed_in}
+use Rattle.dayfile.proofs.Search.{Searching}
 use Rattle.cells.proofs.first_over.Given as goal
 
 abbrev pub over : List ℕ → ℕ → ℕ → Bool

@@ -1,6 +1,5 @@
 -- `cells::no_sheet` meets its contract: line 13 by cases on the entry of kind 4.
 use mathlib.Core.Path.{refl}
-use borrow.Author.Rules.{rules}
 use Rattle.dayfile.specs.Table.{line13}
 use Rattle.dayfile.proofs.Answers.{at-line, no_line}
 use Rattle.cells.proofs.no_sheet.Goals as goal

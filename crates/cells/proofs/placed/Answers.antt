@@ -1,10 +1,9 @@
 -- `cells::placed` meets its contract. Each turn adds one seat's cell.
-use borrow.Author.Rules.{rules}
-use Prim.Native.Nat.{◌-◌, ◌*◌, ◌<◌}
+use Prim.Native.Nat.{◌*◌, ◌<◌}
 use mathlib.Core.Path.{◌∙◌}
 use native.Mathlib.Omega.{arith}
-use Rattle.sheet.proofs.Sums.{Summed, first, last}
-use Rattle.cells.proofs.Sheets.{cell_in_field, add-cell, placed-is, row_small}
+use Rattle.sheet.proofs.Sums.{first, last}
+use Rattle.cells.proofs.Sheets.{add-cell, placed-is, row_small}
 use Rattle.cells.proofs.placed.Goals as goal
 
 pub loop-i-preserved : goal.loop-i-preserved

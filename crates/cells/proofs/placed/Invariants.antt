@@ -1,9 +1,6 @@
-use borrow.Author.Rules.{rules}
-use Prim.Native.Nat.{◌-◌, ◌*◌, ◌<◌}
-use mathlib.Core.Path.{◌∙◌}
-use native.Mathlib.Omega.{arith}
-use Rattle.sheet.proofs.Sums.{Summed, first, last}
-use Rattle.cells.proofs.Sheets.{cell_in_field, add-cell, placed-is, row_small}
+use Prim.Native.Nat.{◌-◌}
+use Rattle.sheet.proofs.Sums.{Summed}
+use Rattle.cells.proofs.Sheets.{cell_in_field}
 use Rattle.cells.proofs.placed.Given as goal
 
 abbrev pub invariant-loop-i : goal.invariant-loop-i

@@ -1,5 +1,4 @@
 -- `cells::window_over` meets its contract: line 15 by cases on the entry of kind 4.
-use borrow.Author.Rules.{rules}
 use mathlib.Core.Path.{◌∙◌}
 use Rattle.dayfile.proofs.Answers.{at-line, no_line, under_at}
 use Rattle.cells.proofs.Sheets.{over-as, none_over}
