@@ -8,7 +8,7 @@ use native.Mathlib.Omega.{arith}
 use lib.ListN.{length, get_or}
 use Rattle.fairness.specs.Leximin.{table}
 use Rattle.lists.proofs.Tables.{table_same}
-use Rattle.model.specs.Book.{Book, Grid, cell, seats, balance_of, balances_of, weights_of}
+use Rattle.model.specs.Book.{Grid, cell, seats, balance_of, balances_of}
 use Rattle.model.proofs.Tests.{not-true}
 use Rattle.sheet.specs.declared.Sheet.{Sheet}
 use Rattle.sheet.specs.Sheets.{credit, grid_of}

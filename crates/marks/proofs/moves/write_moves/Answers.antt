@@ -1,0 +1,66 @@
+-- `marks::moves::write_moves` meets its contract. Each turn writes one move.
+use borrow.Author.Rules.{rules}
+use native.Mathlib.Omega.{arith}
+use mathlib.Core.Path.{◌≡◌}
+use lib.ListN.{length, get_or, length-set}
+use Rattle.lists.proofs.Buffers.{stored-length}
+use Rattle.sheet.specs.declared.Move.{Move}
+use Rattle.exchange.specs.Paths.{InByte}
+use Rattle.sheet.specs.Sheets.{move_of}
+use Rattle.marks.proofs.Coding.{coded_none, coded-more, coded-all, move-inside, byte_at}
+use Rattle.marks.proofs.moves.write_moves.Goals as goal
+
+abbrev zero_move : Move
+zero_move = record { window = 0; giver = 0; taker = 0 }
+
+pub loop-i-init : goal.loop-i-init
+loop-i-init c = (search rules, coded_none c.args.path.moves _)
+
+pub loop-i-preserved : goal.loop-i-preserved
+loop-i-preserved c =
+    let here = move-inside c.args.path c.requires.writable c.loop-i.i c.loop-i-test.true in
+    (search rules, coded-more c.args.path.moves c.loop-i.i zero_move here c.loop-i.invariant.1)
+
+pub returns : goal.returns
+returns c =
+    let l = c.loop-i in
+    coded-all c.args.path c.requires.writable l.i c.loop-i-test.false l.invariant.0 c.requires.count_in_bounds l.invariant.1
+
+pub overflow_cast-out : goal.overflow_cast-out
+overflow_cast-out c =
+    let turn : InByte (move_of (get_or c.args.path.moves c.loop-i.i zero_move)) = byte_at c.args.path c.requires.writable c.loop-i.i zero_move c.loop-i-test.true in omega (arith, turn.window)
+
+pub overflow_add-out : goal.overflow_add-out
+overflow_add-out c =
+    let turn : InByte (move_of (get_or c.args.path.moves c.loop-i.i zero_move)) = byte_at c.args.path c.requires.writable c.loop-i.i zero_move c.loop-i-test.true in omega (arith, turn.window)
+
+pub bounds-out-at : goal.bounds-out-at
+bounds-out-at c =
+    let same : length c.loop-i.out ≡ length c.args.out.now = stored-length c.loop-i.invariant.1 in omega (arith, same)
+
+pub overflow_cast-out-in-loop-i : goal.overflow_cast-out-in-loop-i
+overflow_cast-out-in-loop-i c =
+    let turn : InByte (move_of (get_or c.args.path.moves c.loop-i.i zero_move)) = byte_at c.args.path c.requires.writable c.loop-i.i zero_move c.loop-i-test.true in omega (arith, turn.giver)
+
+pub overflow_add-out-in-loop-i : goal.overflow_add-out-in-loop-i
+overflow_add-out-in-loop-i c =
+    let turn : InByte (move_of (get_or c.args.path.moves c.loop-i.i zero_move)) = byte_at c.args.path c.requires.writable c.loop-i.i zero_move c.loop-i-test.true in omega (arith, turn.giver)
+
+pub bounds-out-at-in-loop-i : goal.bounds-out-at-in-loop-i
+bounds-out-at-in-loop-i c =
+    let same : length c.loop-i.out ≡ length c.args.out.now = stored-length c.loop-i.invariant.1 in simp length-set (omega (arith, same))
+
+pub overflow_cast-out-in-loop-i-2 : goal.overflow_cast-out-in-loop-i-2
+overflow_cast-out-in-loop-i-2 c =
+    let turn : InByte (move_of (get_or c.args.path.moves c.loop-i.i zero_move)) = byte_at c.args.path c.requires.writable c.loop-i.i zero_move c.loop-i-test.true in omega (arith, turn.taker)
+
+pub overflow_add-out-in-loop-i-3 : goal.overflow_add-out-in-loop-i-3
+overflow_add-out-in-loop-i-3 c =
+    let turn : InByte (move_of (get_or c.args.path.moves c.loop-i.i zero_move)) = byte_at c.args.path c.requires.writable c.loop-i.i zero_move c.loop-i-test.true in omega (arith, turn.taker)
+
+pub bounds-out-at-in-loop-i-2 : goal.bounds-out-at-in-loop-i-2
+bounds-out-at-in-loop-i-2 c =
+    let same : length c.loop-i.out ≡ length c.args.out.now = stored-length c.loop-i.invariant.1 in simp length-set (omega (arith, same))
+
+pub shape_of-out : goal.shape_of-out
+shape_of-out c = stored-length c.loop-i.invariant.1
