@@ -24,7 +24,7 @@ use Rattle.dayfile.specs.declared.Book as Memory
 use Rattle.dayfile.specs.declared.Day.{Day}
 use Rattle.dayfile.specs.declared.Written as Written
 use Rattle.dayfile.proofs.Tests.{within-high}
-use Rattle.dayfile.proofs.Lines.{on, stop-in, on-after, none-holds, none-parts, room-short, room-enough}
+use Rattle.dayfile.proofs.Lines.{stop-in, on-after, none-holds, none-parts, room-short, room-enough}
 use Rattle.dayfile.proofs.Answers.{writes-refused, writes-whole}
 use Rattle.dayfile.proofs.Search.{wrong-same}
 use Rattle.dayfile.proofs.Tables.{sized-length, sized-one}
