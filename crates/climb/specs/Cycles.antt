@@ -1,5 +1,5 @@
 -- Cycles of moves in memory, what the search for them answers, and how far a grid is raised.
-use Rattle.std.specs.Prelude.{◌≡◌, Bool, true, false, List, ◌∷◌, ℕ, ◌<◌}
+use Rattle.std.specs.Prelude.{◌≡◌, Bool, true, false, List, ◌∷◌, ℕ}
 use Rattle.fairness.specs.Instance.{Instance, Sheet}
 use Rattle.fairness.specs.Exchange.{Move, Settled}
 use Rattle.fairness.specs.Raising.{Topmost, TopBefore, Raises}
