@@ -9,7 +9,6 @@ use Rattle.model.specs.Marks.{mark_of, result_of}
 use Rattle.dayfile.specs.Layout.{book_of}
 use Rattle.dayfile.specs.Table.{refuse, first_of, sheet_lines, buffer_lines, mark_lines, moves_room}
 use Rattle.dayfile.specs.Memory.{book_in, cells_in, Reads}
-use Rattle.dayfile.specs.declared.Book as Memory
 use Rattle.dayfile.specs.declared.Reading.{Reading}
 use Rattle.dayfile.proofs.Answers.{defined-refusal, defined-answer}
 use Rattle.dayfile.proofs.Lines.{none-parts, room-none}

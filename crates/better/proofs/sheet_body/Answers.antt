@@ -1,0 +1,20 @@
+-- `better::sheet_body` meets its contract: the body lies within the file.
+use borrow.Author.Rules.{rules}
+use Prim.Native.Nat.{◌+◌, ◌≤◌}
+use lib.ListN.{length}
+use Rattle.better.proofs.Bodies.{span-inside, body_is}
+use Rattle.better.proofs.sheet_body.Goals as goal
+
+pub overflow_add-end : goal.overflow_add-end
+overflow_add-end c = let l : c.sheet_span-span.result.start + c.sheet_span-span.result.length ≤ length c.args.file.now = span-inside _ _ c.requires c.sheet_span-span.ensures in search rules
+
+pub slice_bounds-result-start : goal.slice_bounds-result-start
+slice_bounds-result-start c = let l : c.sheet_span-span.result.start + c.sheet_span-span.result.length ≤ length c.args.file.now = span-inside _ _ c.requires c.sheet_span-span.ensures in search rules
+
+pub slice_bounds-result-end : goal.slice_bounds-result-end
+slice_bounds-result-end c = let l : c.sheet_span-span.result.start + c.sheet_span-span.result.length ≤ length c.args.file.now = span-inside _ _ c.requires c.sheet_span-span.ensures in search rules
+
+pub returns : goal.returns
+returns c =
+    let f = c.args.file.now in
+    body_is f _ c.sheet_span-span.ensures
