@@ -1,4 +1,4 @@
-use Rattle.std.proofs.Common.{mod-lt, rules}
+use Rattle.std.proofs.Common.{mod-lt}
 use Rattle.draws.proofs.below.Goals as goal
 
 pub returns : goal.returns

@@ -1,7 +1,6 @@
 -- `topmost::all_blocked` meets its contract: each turn passes one seat.
 use borrow.Author.Rules.{rules}
-use mathlib.Core.Path.{◌≡◌, refl, sym}
-use mathlib.Core.Bool.{true≢false}
+use mathlib.Core.Path.{◌≡◌, refl}
 use native.Mathlib.Omega.{arith}
 use Rattle.topmost.proofs.Sweep.{swept-first, swept-turn}
 use Rattle.topmost.proofs.all_blocked.Goals as goal
@@ -18,16 +17,13 @@ grown-next-requires c =
       by_index = λ w p. omega (arith, ((c.below-rooms.ensures w).0 p).0);
     }
 
-pub returns-then-not-row_clear : goal.returns-then-not-row_clear
-returns-then-not-row_clear c = λ e. absurd (true≢false (sym e))
-
 pub loop-i-preserved : goal.loop-i-preserved
 loop-i-preserved c =
     let at = c.loop-i in (
       omega (arith, at.invariant.0),
       λ t seats windows.
           swept-turn _ _ _ windows at.sets _ _ _ at.i _ (omega arith) (at.invariant.1 t seats windows) c.below-rooms.ensures
-          c.below-holds.ensures (c.row_clear.ensures c.if-not-row_clear.false) c.grown-next.ensures,
+          c.below-holds.ensures (c.row_clear.ensures (search rules)) c.grown-next.ensures,
     )
 
 pub returns : goal.returns
