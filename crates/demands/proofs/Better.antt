@@ -44,10 +44,10 @@ nothing-of (Refused file n p) f g q e = refl
 nothing-of First f g q e = absurd (let z : ◌≡◌ {A = ℕ} 0 1 = cc in omega arith)
 nothing-of Second f g q e = absurd (let z : ◌≡◌ {A = ℕ} 0 1 = cc in omega arith)
 
-pub handed_back : (f g part : List ℕ) → HandsBack f g part →
+pub handed-back : (f g part : List ℕ) → HandsBack f g part →
     ((q : Refusal) → FirstHolds (better_lines f g) q → part ≡ [])
     × (NoneHolds (better_lines f g) → (side : Side) × (Chosen f g side × (part ≡ sheet_body (file_on side f g))))
-handed_back f g part h = (
+handed-back f g part h = (
   λ q holds. h.part_is ∙ nothing-of h.choice f g q ((h.chooses.defined.refuses q).1 holds),
   λ free.
       let x = h.chooses.defined.gives free in

@@ -10,7 +10,7 @@ use Rattle.dayfile.specs.Memory.{day_book, day_sheet, reading, Reads}
 use Rattle.dayfile.proofs.Lines.{none-first-of}
 use Rattle.dayfile.proofs.Theorems.{holds-accepted}
 use Rattle.demands.specs.Demands.{Demand1}
-use Rattle.demands.proofs.Better.{handed_back}
+use Rattle.demands.proofs.Better.{handed-back}
 
 read : (file : List ℕ) (r : Reading) → Reads file r →
     Defined (read_lines file) [] [] (reading r) (λ d. (day_book d ≡ book_of file) × (day_sheet d ≡ sheet_of file))
@@ -32,7 +32,7 @@ first =
       planner = λ file before after r h. h;
       listing = λ file before after r h. h;
       better = λ f g r h. (h.defined, h.whose);
-      handed_back = handed_back;
+      handed_back = handed-back;
       fulfil = λ file row before after r h. h;
       forecast = λ file r h. (h.defined, h.zeros);
     }
