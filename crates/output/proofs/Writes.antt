@@ -1,10 +1,10 @@
 -- What was read and what was written, where a reader or a writer tells. Assumes nothing.
-use Rattle.std.specs.Prelude.{◌≡◌, List, [], ℕ, ◌++◌, ◌-◌, take, drop, length, IfSome, Some, None}
+use Rattle.std.specs.Prelude.{◌≡◌, List, [], ℕ, ◌++◌, take, drop, length, IfSome, Some, None}
 use Rattle.std.proofs.Common.{sym, ap, ◌∙◌, subst, append_assoc, take-append-drop}
 use Rattle.std.proofs.Math.Seq.{take-append_seam}
 use Rattle.std.specs.declared.option.Option.{Option}
 use Rattle.std.specs.Option.{option_map}
-use Rattle.std.specs.Io.KnownBytes.{Appends, Keeps}
+use Rattle.std.specs.Io.KnownBytes.{Appends}
 use Rattle.output.specs.Output.{AppendsFront, taken}
 
 -- what a reader with a limit gave, of the reader under it

@@ -1,7 +1,6 @@
-use Rattle.std.proofs.Common.{rules, sym, ap, ◌∙◌, subst, ◌++◌, take, drop, append-nil}
+use Rattle.std.proofs.Common.{sym, ap, ◌∙◌, ◌++◌, take}
 use Rattle.std.proofs.lemmas.List.{take_rest}
 use Rattle.std.proofs.KnownBytes.{Appends-trans, Appends-kept}
-use Rattle.std.specs.Io.KnownBytes.{Appends}
 use Rattle.output.proofs.Writes.{front-of, one-more}
 use Rattle.output.proofs.put_all.Goals as goal
 use Rattle.output.proofs.put_all.Goals.{in-Ok, in-Err+else-ne}

@@ -1,5 +1,5 @@
 -- what is gone from `rest` was appended
-use Rattle.std.proofs.Common.{◌≡◌, ℕ, List, ◌++◌, drop, take}
+use Rattle.std.proofs.Common.{◌≡◌, ℕ, List, ◌++◌}
 use Rattle.std.specs.Io.KnownBytes.{Appends}
 use Rattle.output.proofs.put_all.Given as goal
 
