@@ -21,8 +21,8 @@ put_day-requires c =
 
 pub returns : goal.returns
 returns c =
-    let said = result-told c.mark_reading-marking.result _ c.numbers-result.ensures c.if-result-eq0.false in
-    day-listed _ _ _ c.mark_reading-marking.result refl c.mark_reading-marking.ensures _ said _ c.read-reading.ensures
+    let told = result-told c.mark_reading-marking.result _ c.numbers-result.ensures c.if-result-eq0.false in
+    day-listed _ _ _ c.mark_reading-marking.result refl c.mark_reading-marking.ensures _ told _ c.read-reading.ensures
     _ _ _ c.put_day.ensures
 
 pub mark_reading-marking-requires : goal.mark_reading-marking-requires
