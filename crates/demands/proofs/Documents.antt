@@ -40,7 +40,7 @@ module _ (b : Book) (s : Grid) where
           at : (i : ℕ) → i < (instance_of b).seats → Dec (cell s i j < (instance_of b).cap i j) → cell s i j ≡ (instance_of b).cap i j
           at i li (no q) = omega (arith, lawful.within i j li lj)
           at i li (yes room) =
-              absurd (full (record { window = j; seat = i; in_window = lj; in-seat = li; left = left; room = room }))
+              absurd (full (record { window = j; seat = i; in_window = lj; in_seat = li; left = left; room = room }))
 
   pub wasteful-not-non-wasteful : Lawful b s → Wasteful (instance_of b) (cell s) ↔ (NonWasteful (instance_of b) (cell s) → ⊥)
   wasteful-not-non-wasteful lawful = (to, back wasteful?)
@@ -51,7 +51,7 @@ module _ (b : Book) (s : Grid) where
           go : (placed (instance_of b) (cell s) w.window ≡ (instance_of b).supply w.window)
               ⊎ ((i : ℕ) → i < (instance_of b).seats → cell s i w.window ≡ (instance_of b).cap i w.window) → ⊥
           go (inl out) = omega (arith, w.left)
-          go (inr all) = omega (arith, all w.seat w.in-seat, w.room)
+          go (inr all) = omega (arith, all w.seat w.in_seat, w.room)
 
       back : Dec (Wasteful (instance_of b) (cell s)) → (NonWasteful (instance_of b) (cell s) → ⊥) → Wasteful (instance_of b) (cell s)
       back (yes w) q = w

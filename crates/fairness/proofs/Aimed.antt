@@ -65,7 +65,7 @@ module _ (I : Instance) (want : ℕ → ℕ) (M : ℕ) where
           window = w.window;
           seat = w.seat;
           in_window = w.in_window;
-          in-seat = w.in-seat;
+          in_seat = w.in_seat;
           left = w.left;
           room = w.room;
         })

@@ -131,13 +131,13 @@ module _ (I J : Instance) (S T : Sheet) (a : Alike I J S T) where
   alike-wasteful w =
       let i = w.seat in
       let j = w.window in
-      let li = w.in-seat in
+      let li = w.in_seat in
       let lj = w.in_window in
       record {
         window = j;
         seat = i;
         in_window = omega (arith, a.windows, lj);
-        in-seat = omega (arith, a.seats, li);
+        in_seat = omega (arith, a.seats, li);
         left = omega (arith, w.left, alike-placed j lj, a.supplies j lj);
         room = omega (arith, w.room, a.cells i j li lj, a.caps i j li lj);
       }

@@ -22,7 +22,7 @@ used : (I : Instance) (S : Sheet) → (Wasteful I S → ⊥) →
 used I S full i j li lj r = go (dec_lt (placed I S j) (I.supply j))
   where
     go : Dec (placed I S j < I.supply j) → I.supply j ≤ placed I S j
-    go (yes b) = absurd (full (record { window = j; seat = i; in_window = lj; in-seat = li; left = b; room = r }))
+    go (yes b) = absurd (full (record { window = j; seat = i; in_window = lj; in_seat = li; left = b; room = r }))
     go (no b) = omega arith
 
 module _ (I : Instance) (P : ℕ → Type 0) (in? : (i : ℕ) → Dec (P i)) where

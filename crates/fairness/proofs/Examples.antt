@@ -40,7 +40,7 @@ K7-proper = record { weights = λ i l. omega arith; positions = λ i k li lk e. 
 empty-wasteful : Wasteful K7 (λ i j. 0)
 unfolding sum
 empty-wasteful =
-    record { window = 0; seat = 0; in_window = omega arith; in-seat = omega arith; left = omega arith; room = omega arith }
+    record { window = 0; seat = 0; in_window = omega arith; in_seat = omega arith; left = omega arith; room = omega arith }
 
 -- the credit at seat 0, or at seat 1
 abbrev first : Sheet

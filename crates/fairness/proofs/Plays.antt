@@ -98,7 +98,7 @@ module _ (I : Instance) where
               window = w.window;
               seat = m.taker;
               in_window = w.in_window;
-              in-seat = p.in_taker;
+              in_seat = p.in_taker;
               left = left;
               room = rw e p.room;
             }
@@ -107,7 +107,7 @@ module _ (I : Instance) where
               window = w.window;
               seat = w.seat;
               in_window = w.in_window;
-              in-seat = w.in-seat;
+              in_seat = w.in_seat;
               left = left;
               room =
                   omega (

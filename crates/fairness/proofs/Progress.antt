@@ -72,7 +72,7 @@ module _ (I : Instance) (proper : Proper I) where
         omega (
           arith,
           sum-add I.seats (λ a. S a b) (λ a. hit w.seat w.window a b),
-          hit-column I.seats w.seat w.window b w.in-seat,
+          hit-column I.seats w.seat w.window b w.in_seat,
         )
 
     more-total : (a : ℕ) → total I more a ≡ total I S a + one w.seat a
@@ -101,7 +101,7 @@ module _ (I : Instance) (proper : Proper I) where
         potential-Better I proper N S more (omega arith)
         (omega (
           arith,
-          potential-raise (B I) (big I) N (u I) I.seats w.seat (height I S) (height I more) w.in-seat
+          potential-raise (B I) (big I) N (u I) I.seats w.seat (height I S) (height I more) w.in_seat
               (λ a b. omega (arith, more-total a)),
-          φ-pos (B I) (big I) N (u I) w.seat (height I S w.seat) (u-pos I proper w.seat w.in-seat) (omega arith),
+          φ-pos (B I) (big I) N (u I) w.seat (height I S w.seat) (u-pos I proper w.seat w.in_seat) (omega arith),
         ))

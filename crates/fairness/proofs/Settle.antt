@@ -130,7 +130,7 @@ module _ (I : Instance) where
         w.room,
         first-sum I.seats w.window,
         sum-suc w.seat (λ a. I.cap a w.window),
-        sum_mono (suc w.seat) I.seats (λ a. I.cap a w.window) w.in-seat,
+        sum_mono (suc w.seat) I.seats (λ a. I.cap a w.window) w.in_seat,
       )
 
   pub settled-exists : Proper I → (S : Sheet) × Settled I S

@@ -39,7 +39,7 @@ module _ (I : Instance) where
     pub window : ℕ
     pub seat : ℕ
     pub in_window : window < I.windows
-    pub in-seat : seat < I.seats
+    pub in_seat : seat < I.seats
     pub left : placed S window < I.supply window
     pub room : S seat window < I.cap seat window
 

@@ -39,7 +39,7 @@ module _
     unwasted w =
         let i = w.seat in
         let j = w.window in
-        let p : i < t.seats = omega (arith, told.seats_are, w.in-seat) in
+        let p : i < t.seats = omega (arith, told.seats_are, w.in_seat) in
         let q : j < t.windows = omega (arith, told.windows_are, w.in_window) in
         let below : cell g i j < cell caps i j = omega (arith, w.room, told.caps_are i j p q) in
         let less = sum_lt t.seats (λ k. cell g k j) (λ k. cell caps k j) i (f.full j q).within p below in

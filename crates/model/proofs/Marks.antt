@@ -45,7 +45,7 @@ module _ (b : Book) (s : Grid) where
     w.in_window,
     (and-true _ _).1 (
       lt-ltb _ _ w.left,
-      is_some-lowest (seats b) (below w.window) w.seat w.in-seat (lt-ltb _ _ w.room),
+      is_some-lowest (seats b) (below w.window) w.seat w.in_seat (lt-ltb _ _ w.room),
     ),
   )
 
@@ -63,8 +63,8 @@ module _ (b : Book) (s : Grid) where
             seat = found.1.below;
             left = ltb-true _ _ both.0;
             room = ltb-true _ _ found.1.passes;
-            lowest-window = λ w. at w (dec_lt w.window j);
-            lowest-seat = λ k lk. ltb-false _ _ (found.1.least k lk);
+            lowest_window = λ w. at w (dec_lt w.window j);
+            lowest_seat = λ k lk. ltb-false _ _ (found.1.least k lk);
           },
         ),
       )
@@ -76,7 +76,7 @@ module _ (b : Book) (s : Grid) where
   -- what is wasted lowest is wasted
   pub waste-of : (j i : ℕ) → Wasted b s j i → Wasteful (instance_of b) (cell s)
   unfolding instance_of
-  waste-of j i h = record { window = j; seat = i; in_window = h.window; in-seat = h.seat; left = h.left; room = h.room }
+  waste-of j i h = record { window = j; seat = i; in_window = h.window; in_seat = h.seat; left = h.left; room = h.room }
 
   wasted-is : (j i : ℕ) → Wasted b s j i → (wasted_window b s ≡ some j) × (seat_below b s j ≡ some i)
   unfolding wasted_window wastes seat_below below instance_of waste-of
@@ -89,7 +89,7 @@ module _ (b : Book) (s : Grid) where
     lowest-is (seats b) (below j) i (record {
       below = h.seat;
       passes = lt-ltb _ _ h.room;
-      least = λ k lk. le-ltb _ _ (h.lowest-seat k lk);
+      least = λ k lk. le-ltb _ _ (h.lowest_seat k lk);
     }),
   )
     where
@@ -101,11 +101,11 @@ module _ (b : Book) (s : Grid) where
             window = k;
             seat = found.0;
             in_window = lt_trans lk h.window;
-            in-seat = found.1.below;
+            in_seat = found.1.below;
             left = ltb-true _ _ both.0;
             room = ltb-true _ _ found.1.passes;
           } in
-          omega (arith, h.lowest-window waste)
+          omega (arith, h.lowest_window waste)
 
   -- ---- the mark
 

@@ -41,8 +41,8 @@ module _ (b : Book) (s : Grid) where
     pub seat : i < seats b
     pub left : placed (instance_of b) (cell s) j < get_or b.supplies j 0
     pub room : cell s i j < cell b.caps i j
-    pub lowest-window : (w : Wasteful (instance_of b) (cell s)) → j ≤ w.window
-    pub lowest-seat : (k : ℕ) → k < i → cell b.caps k j ≤ cell s k j
+    pub lowest_window : (w : Wasteful (instance_of b) (cell s)) → j ≤ w.window
+    pub lowest_seat : (k : ℕ) → k < i → cell b.caps k j ≤ cell s k j
 
   abbrev pub Marked : Mark → Type 0
   Marked (wasteful j i) = Wasted j i
