@@ -1,5 +1,4 @@
 -- `credits_better` meets its contract: the choice, in numbers, with where the body lies.
-use borrow.Author.Rules.{rules}
 use mathlib.Core.Path.{ap, ◌∙◌}
 use Rattle.choice.specs.Numbers.{better_numbers}
 use Rattle.credits.proofs.credits_better.Goals as goal

@@ -1,5 +1,4 @@
 -- `credits_mark` meets its contract: the marker's, in numbers.
-use borrow.Author.Rules.{rules}
 use Rattle.credits.proofs.Laws.{small}
 use Rattle.credits.proofs.credits_mark.Goals as goal
 

@@ -1,5 +1,4 @@
 -- `credits_write` meets its contract: the writer's, in numbers.
-use borrow.Author.Rules.{rules}
 use Rattle.credits.proofs.Laws.{writes_as}
 use Rattle.credits.proofs.credits_write.Goals as goal
 
