@@ -1,4 +1,4 @@
-use Rattle.std.proofs.Common.{◌-◌, ◌≤◌, rules}
+use Rattle.std.proofs.Common.{◌-◌, ◌≤◌}
 use Rattle.trials.proofs.pairs.entry_in.Given as goal
 
 abbrev pub invariant-loop-e : goal.invariant-loop-e
