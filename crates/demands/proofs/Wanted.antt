@@ -1,11 +1,11 @@
 -- From wanted totals to a sheet: document 000's cap of a group, what C is told, and what stands in the buffer. Assumes nothing.
-use mathlib.Core.Path.{◌≡◌, refl, sym, ap, ap₂, subst, ◌∙◌}
+use mathlib.Core.Path.{◌≡◌, refl, sym, ap, subst, ◌∙◌}
 use mathlib.Core.List.{List}
 use mathlib.Core.Logic.{◌↔◌}
 use Prim.Native.Nat.{ℕ, ◌+◌, ◌*◌}
 use native.Mathlib.Decide.{ℕ_discrete}
 use native.Mathlib.Omega.{arith}
-use lib.ListN.{length, take, get_or}
+use lib.ListN.{length, take}
 use lib.Seq.{ext_get_or}
 use Rattle.fairness.specs.Sums.{keep}
 use Rattle.fairness.specs.Instance.{Instance, group_capacity}
