@@ -178,6 +178,8 @@ fn raise_row(grid: &mut Caps, caps: &Caps, t: Terms, seat: usize)
 }
 
 // Makes a settled grid the standard one.
+// Never made part of its caller: so its locals take stack only while it runs.
+#[inline(never)]
 pub fn climb(grid: &mut Caps, caps: &Caps, t: Terms)
     requires small { Small t caps.now }
     requires settled { Settled (instance_in t caps.now) (cell grid.old) }

@@ -16,6 +16,8 @@ use sheet::Caps;
 use store::file_length;
 
 // The standard sheet of the book that is in memory.
+// Never made part of its caller: so its locals take stack only while it runs.
+#[inline(never)]
 fn planned_sheet(book: Book, caps: Caps) -> Caps
     requires { Fit (book_in book caps) }
     ensures { Standard (instance_of (book_in book caps)) (cell result) }
