@@ -71,15 +71,21 @@ fn run_all<W: Write>(to: &mut W, text: &[u8]) -> io::Result<()> {
 }
 
 // Room for all vectors, and more.
-const INPUT_ROOM: usize = 262144;
+fn input_room() -> usize
+    ensures { 262144 ≡ result }
+{
+    262144
+}
 
 // Vectors for which there is no room would go unnoticed, so it is said where none is left.
 fn main(rt: HostRuntime) -> io::Result<()> {
     let mut text = Vec::new(rt.alloc());
-    rt.reader().take(INPUT_ROOM as u64).read_to_end(&mut text)?;
+    rt.reader()
+        .take(input_room() as u64)
+        .read_to_end(&mut text)?;
     let mut to = BufWriter::new(rt.alloc(), io::writer(&rt))?;
     run_all(&mut to, &text)?;
-    if text.len() == INPUT_ROOM {
+    if text.len() == input_room() {
         say_text(&mut to, b"there may be vectors that were not read\n")?;
     }
     to.flush()
