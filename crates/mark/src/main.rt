@@ -4,5 +4,5 @@
 use std::io;
 
 fn main(rt: HostRuntime) -> io::Result<()> {
-    output::mark(rt.alloc(), rt.reader(), &mut io::writer(&rt))
+    output::mark(&mut rt.reader(), &mut io::writer(&rt))
 }

@@ -1,27 +1,30 @@
--- What was read and what was written, where a reader or a writer tells. Assumes nothing.
-use Rattle.std.specs.Prelude.{◌≡◌, List, [], ℕ, ◌++◌, take, drop, length, IfSome, Some, None}
-use Rattle.std.proofs.Common.{sym, ap, ◌∙◌, subst, append_assoc, take-append-drop}
+-- What was read, where a reader tells. Assumes nothing.
+use Rattle.std.proofs.Common.{◌≡◌, ◌≤◌, List, ◌++◌, ℕ, ◌<◌, take, length, sym, ap, ◌∙◌, arith, append-nil, length-take-le, take_all}
+use Rattle.std.specs.Prelude.{IfSome, IfOk, Some, None, Ok, Err}
 use Rattle.std.proofs.Math.Seq.{take-append_seam}
+use Rattle.std.proofs.Math.Decide.{dec_lt}
 use Rattle.std.specs.declared.option.Option.{Option}
-use Rattle.std.specs.Option.{option_map}
-use Rattle.std.specs.Io.KnownBytes.{Appends}
-use Rattle.output.specs.Output.{AppendsFront, taken}
+use Rattle.std.specs.declared.result.Result.{Result}
+use Rattle.std.specs.Io.KnownBytes.{Consumes, IsAtEnd}
 
--- what a reader with a limit gave, of the reader under it
-pub taken-whole : (limit : ℕ) (under whole : Option (List ℕ)) (start items : List ℕ) → limit ≡ 65536 → under ≡ whole → start ≡ [] →
-    IfSome (option_map (take limit) under) (λ xs. items ≡ start ++ xs) → IfSome whole (λ input. items ≡ taken input)
-taken-whole limit under whole start items l u s p = go whole (rw (l, u, s) at p)
-  where
-    go : (o : Option (List ℕ)) → IfSome (option_map (take 65536) o) (λ xs. items ≡ [] ++ xs) → IfSome o (λ input. items ≡ taken input)
-    go None p = tt
-    go (Some input) p = p
+-- a buffer that was filled, or into which all was read that there was, has the front of the input
+taken-whole : (limit : ℕ) (was now : Option (List ℕ)) (buf : List ℕ) (n : ℕ) → length buf ≡ limit → n ≤ length buf → Consumes was now (take n buf) →
+    (n < length buf → IsAtEnd now) → IfSome was (λ input. take n buf ≡ take limit input)
+taken-whole limit None now buf n long within given end = tt
+taken-whole limit (Some input) None buf n long within given end = absurd given
+taken-whole limit (Some input) (Some left) buf n long within given end =
+    let size : length (take n buf) ≡ n = length-take-le n buf within in
+    elim (dec_lt n limit) [
+      | yes l ↦
+          let all : input ≡ take n buf = given ∙ ap (λ r. take n buf ++ r) (end (omega arith)) ∙ append-nil (take n buf) in
+          sym (take_all limit (take n buf) (omega arith)) ∙ ap (take limit) (sym all)
+      | no l ↦
+          let full : length (take n buf) ≡ limit = omega arith in
+          sym (ap (take limit) given ∙ ap (λ k. take k (take n buf ++ left)) (sym full) ∙ take-append_seam (take n buf) left)
+    ]
 
--- what was written is a front of the bytes
-pub front-of : (a b : Option (List ℕ)) (bytes done rest : List ℕ) → bytes ≡ done ++ rest → Appends a b done → AppendsFront a b bytes
-front-of a b bytes done rest e p = (length done, subst (Appends a b) (sym (ap (take (length done)) e ∙ take-append_seam done rest)) p)
-
--- one write more, of the first n bytes of the rest
-pub one-more : (bytes done rest : List ℕ) (n : ℕ) → bytes ≡ done ++ rest →
-    bytes ≡ (done ++ take n rest) ++ drop n rest
-one-more bytes done rest n e =
-    e ∙ ap (λ l. done ++ l) (sym (take-append-drop n rest)) ∙ sym (append_assoc done (take n rest) (drop n rest))
+pub taken-told : {E : Type 0} (limit : ℕ) (r : Result ℕ E) (was now : Option (List ℕ)) (buf : List ℕ) → length buf ≡ limit →
+    IfOk r (λ n. n ≤ length buf) → IfOk r (λ n. Consumes was now (take n buf)) → IfOk r (λ n. n < length buf → IsAtEnd now) →
+    IfOk r (λ n. IfSome was (λ input. take n buf ≡ take limit input))
+taken-told limit (Ok n) was now buf long within given end = taken-whole limit was now buf n long within given end
+taken-told limit (Err e) was now buf long within given end = tt

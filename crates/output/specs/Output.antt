@@ -7,6 +7,7 @@ use Rattle.dayfile.specs.declared.Written.{Written}
 use Rattle.dayfile.specs.declared.Written.TheVariants.{Refused, Whole}
 use Rattle.dayfile.specs.Memory.{front}
 use Rattle.lines.specs.Lines.{refusal_line}
+use Rattle.streams.specs.Streams.{AppendsFront}
 use Rattle.listing.specs.Calls.{Lists}
 use Rattle.planner.specs.Planning.{Plans}
 
@@ -28,10 +29,6 @@ pub record PrintsPlan (file before after : List ℕ) (r : ℕ) : Type 0 where
 -- what a program takes of its input: all of it, or its first 65,536 bytes
 abbrev pub taken : List ℕ → List ℕ
 taken input = take 65536 input
-
--- a writer, whose bytes are known or not, took a front of these bytes
-abbrev pub AppendsFront : (old new : Option (List ℕ)) → List ℕ → Type 0
-AppendsFront old new bytes = (n : ℕ) × Appends old new (take n bytes)
 
 -- what `mark` writes: the front of a buffer, the listing of what it takes
 pub record WritesMark (input : List ℕ) (old new : Option (List ℕ)) : Type 0 where

@@ -1,15 +1,15 @@
 // What the programs print: all of it is decided here, and each program only hands over its input and its output.
 #![tactic(auto)]
 
-ghost use Rattle.std.specs.Prelude.{◌≡◌, ◌≤◌, ◌⊎◌, length, IfOk, IfSome, OnErr, OnOk};
-ghost use Rattle.std.specs.Io.KnownBytes.{Appends, Keeps};
+ghost use Rattle.std.specs.Prelude.{◌≡◌, ◌≤◌, ◌⊎◌, length, take, IfOk, IfSome, OnErr, OnOk};
+ghost use Rattle.std.specs.Io.KnownBytes.{Keeps};
 ghost use Rattle.dayfile.specs.declared.Written.TheVariants.{Whole};
 ghost use Rattle.listing.specs.Calls.{Lists};
-ghost use Rattle.output.specs.Output.{AppendsFront, PrintsPlan, StopsMark, StopsPlan, WritesMark, WritesPlan, taken};
+ghost use Rattle.output.specs.Output.{PrintsPlan, StopsMark, StopsPlan, WritesMark, WritesPlan, taken};
 
 use dayfile::Written;
-use std::alloc::Global;
-use std::io::{self, ErrorKind, Read, Write};
+use std::io::{self, Read, Write};
+use streams::{read_front, write_front};
 
 // A program's output buffer: the longest listing has 3,453 bytes, and the longest file 3,310.
 pub const ROOM: usize = 4096;
@@ -37,63 +37,41 @@ pub fn of_plan(file: &[u8], out: &mut [u8; ROOM]) -> usize
 }
 
 // A program takes no more of its input than so many bytes.
-pub const TAKEN: u64 = 65536;
+pub const TAKEN: usize = 65536;
 
-// What a program takes of its input.
-fn taken_of<R: Read + Drop>(alloc: Global, from: R) -> io::Result<Vec<u8>>
-    ensures { IfOk result (λ file. IfSome (R.remaining from) (λ input. file.items ≡ taken input)) }
+// Reads what a program takes of its input into a buffer, and tells how much that is.
+fn take_input<R: Read>(from: &mut R, file: &mut [u8; TAKEN]) -> io::Result<usize>
+    ensures within { IfOk result (λ n. n ≤ length file.new) }
+    ensures taken { IfOk result (λ n. IfSome (R.remaining from.old) (λ input. take n file.new ≡ taken input)) }
 {
-    let mut file = Vec::new(alloc);
-    from.take(TAKEN).read_to_end(&mut file)?;
-    Ok(file)
+    read_front(from, file)
 }
 
-// Writes these bytes: all of them or, where a write fails, a front of them.
-fn put_all<W: Write>(to: &mut W, bytes: &[u8]) -> io::Result<()>
-    ensures whole { OnOk result (Appends (W.contents to.old) (W.contents to.new) bytes.now) }
-    ensures front { OnErr result (AppendsFront (W.contents to.old) (W.contents to.new) bytes.now) }
-{
-    let mut rest = bytes;
-    for _ in 0..u64::MAX {
-        if rest.is_empty() {
-            return Ok(());
-        }
-        match to.write(rest) {
-            Ok(0) => return Err(io::Error::from(ErrorKind::WriteZero)),
-            Ok(n) => rest = &rest[n..],
-            Err(e) => {
-                if e.kind() != ErrorKind::Interrupted {
-                    return Err(e);
-                }
-            }
-        }
-    }
-    Err(io::Error::from(ErrorKind::WriteZero))
-}
-
-// The program `mark`. A read that fails, or a lack of memory for what is taken, ends it with the error and nothing is written; a write that
-// fails ends it after a front of what it had to write.
-pub fn mark<R: Read + Drop, W: Write>(alloc: Global, from: R, to: &mut W) -> io::Result<()>
-    ensures whole { OnOk result (IfSome (R.remaining from)
+// The program `mark`. A read that fails ends it with the error, and nothing is written; a write that fails ends it after a front of what it
+// had to write.
+pub fn mark<R: Read, W: Write>(from: &mut R, to: &mut W) -> io::Result<()>
+    ensures whole { OnOk result (IfSome (R.remaining from.old)
         (λ input. WritesMark input (W.contents to.old) (W.contents to.new))) }
-    ensures front { OnErr result (IfSome (R.remaining from)
+    ensures front { OnErr result (IfSome (R.remaining from.old)
         (λ input. Keeps (W.contents to.old) (W.contents to.new) ⊎ StopsMark input (W.contents to.old) (W.contents to.new))) }
 {
-    let file = taken_of(alloc, from)?;
+    let mut file = [0u8; TAKEN];
+    let taken = take_input(from, &mut file)?;
     let mut out = [0u8; ROOM];
-    let length = of_mark(&file, &mut out);
-    put_all(to, &out[..length])
+    let length = of_mark(&file[..taken], &mut out);
+    write_front(to, &out[..length])
 }
 
 // The program `plan`, likewise.
-pub fn plan<R: Read + Drop, W: Write>(alloc: Global, from: R, to: &mut W) -> io::Result<()>
-    ensures whole { OnOk result (IfSome (R.remaining from)
+pub fn plan<R: Read, W: Write>(from: &mut R, to: &mut W) -> io::Result<()>
+    ensures whole { OnOk result (IfSome (R.remaining from.old)
         (λ input. WritesPlan input (W.contents to.old) (W.contents to.new))) }
-    ensures front { OnErr result (IfSome (R.remaining from)
+    ensures front { OnErr result (IfSome (R.remaining from.old)
         (λ input. Keeps (W.contents to.old) (W.contents to.new) ⊎ StopsPlan input (W.contents to.old) (W.contents to.new))) }
 {
-    let file = taken_of(alloc, from)?;
+    let mut file = [0u8; TAKEN];
+    let taken = take_input(from, &mut file)?;
     let mut out = [0u8; ROOM];
-    let length = of_plan(&file, &mut out);
-    put_all(to, &out[..length])
+    let length = of_plan(&file[..taken], &mut out);
+    write_front(to, &out[..length])
 }

@@ -4,5 +4,5 @@
 use std::io;
 
 fn main(rt: HostRuntime) -> io::Result<()> {
-    output::plan(rt.alloc(), rt.reader(), &mut io::writer(&rt))
+    output::plan(&mut rt.reader(), &mut io::writer(&rt))
 }

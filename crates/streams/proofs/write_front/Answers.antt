@@ -1,9 +1,9 @@
 use Rattle.std.proofs.Common.{sym, ap, ◌∙◌, ◌++◌, take}
 use Rattle.std.proofs.lemmas.List.{take_rest}
 use Rattle.std.proofs.KnownBytes.{Appends-trans, Appends-kept}
-use Rattle.output.proofs.Writes.{front-of, one-more}
-use Rattle.output.proofs.put_all.Goals as goal
-use Rattle.output.proofs.put_all.Goals.{in-Ok, in-Err+else-ne}
+use Rattle.streams.proofs.Turns.{front-of, one-more}
+use Rattle.streams.proofs.write_front.Goals as goal
+use Rattle.streams.proofs.write_front.Goals.{in-Ok, in-Err+else-ne}
 
 pub returns-in-Ok-eq0-clause-front : goal.returns-in-Ok-eq0-clause-front
 returns-in-Ok-eq0-clause-front g c =
