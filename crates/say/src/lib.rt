@@ -1,44 +1,63 @@
 // What the test programs are made of: numbers in a text, text to a writer, answers in numbers, a look at the bytes of a buffer.
 #![tactic(auto)]
 
-ghost use Rattle.std.specs.Prelude.{◌<◌, OnOk};
+ghost use Rattle.std.specs.Prelude.{◌<◌, OnOk, OnErr};
 ghost use Rattle.std.specs.Io.KnownBytes.{Appends};
+ghost use Rattle.streams.specs.Streams.{AppendsFront, AppendsSome};
 
 use dayfile::{Check, Written};
 use std::io::{self, Write};
+use streams::write_front;
+use text::put_decimal;
 
 pub mod numbers;
 
-// A write that fails ends what says it: what was taken until then is written.
+// All functions that say something keep what the writer had; a write that fails ends them with the error, after a front of the text.
 pub fn say_text<W: Write>(to: &mut W, text: &[u8]) -> io::Result<()>
-    ensures { OnOk result (Appends (W.contents to.old) (W.contents to.new) text.now) }
+    ensures whole { OnOk result (Appends (W.contents to.old) (W.contents to.new) text.now) }
+    ensures front { OnErr result (AppendsFront (W.contents to.old) (W.contents to.new) text.now) }
+    ensures kept { AppendsSome (W.contents to.old) (W.contents to.new) }
 {
-    to.write_all(text)
+    write_front(to, text)
 }
 
-pub fn say_number<W: Write>(to: &mut W, n: usize) -> io::Result<()> {
-    write!(to, "{n}")
+pub fn say_number<W: Write>(to: &mut W, n: usize) -> io::Result<()>
+    ensures { AppendsSome (W.contents to.old) (W.contents to.new) }
+{
+    let mut text = [0u8; 20];
+    let end = put_decimal(&mut text, 0, n);
+    say_text(to, &text[..end])
 }
 
-fn say_byte<W: Write>(to: &mut W, x: u8) -> io::Result<()> {
-    write!(to, "{x:02x}")
+const DIGITS: [u8; 16] = *b"0123456789abcdef";
+
+fn say_byte<W: Write>(to: &mut W, x: u8) -> io::Result<()>
+    ensures { AppendsSome (W.contents to.old) (W.contents to.new) }
+{
+    say_text(to, &[DIGITS[x as usize / 16], DIGITS[x as usize % 16]])
 }
 
 // Bytes in hexadecimal, and the line's end.
-pub fn say_hex<W: Write>(to: &mut W, bytes: &[u8]) -> io::Result<()> {
+pub fn say_hex<W: Write>(to: &mut W, bytes: &[u8]) -> io::Result<()>
+    ensures { AppendsSome (W.contents to.old) (W.contents to.new) }
+{
     for x in bytes {
         say_byte(to, *x)?;
     }
     say_text(to, b"\n")
 }
 
-pub fn say_buffer<W: Write>(to: &mut W, out: &[u8]) -> io::Result<()> {
+pub fn say_buffer<W: Write>(to: &mut W, out: &[u8]) -> io::Result<()>
+    ensures { AppendsSome (W.contents to.old) (W.contents to.new) }
+{
     say_text(to, b", buffer ")?;
     say_hex(to, out)
 }
 
 // A number with its name; nothing where it is 0.
-pub fn say_named<W: Write>(to: &mut W, name: &[u8], n: usize) -> io::Result<()> {
+pub fn say_named<W: Write>(to: &mut W, name: &[u8], n: usize) -> io::Result<()>
+    ensures { AppendsSome (W.contents to.old) (W.contents to.new) }
+{
     if n == 0 {
         return Ok(());
     }
@@ -46,7 +65,9 @@ pub fn say_named<W: Write>(to: &mut W, name: &[u8], n: usize) -> io::Result<()> 
     say_number(to, n)
 }
 
-pub fn say_refusal<W: Write>(to: &mut W, number: u8, at: usize) -> io::Result<()> {
+pub fn say_refusal<W: Write>(to: &mut W, number: u8, at: usize) -> io::Result<()>
+    ensures { AppendsSome (W.contents to.old) (W.contents to.new) }
+{
     say_text(to, b"refused ")?;
     say_number(to, number as usize)?;
     say_text(to, b" at ")?;
@@ -94,7 +115,9 @@ pub fn replied(w: Written) -> Reply {
     }
 }
 
-pub fn say_reply<W: Write>(to: &mut W, r: Reply) -> io::Result<()> {
+pub fn say_reply<W: Write>(to: &mut W, r: Reply) -> io::Result<()>
+    ensures { AppendsSome (W.contents to.old) (W.contents to.new) }
+{
     if r.taken {
         say_text(to, b"length ")?;
         return say_number(to, r.length);
@@ -131,7 +154,9 @@ pub const WRONG: usize = 3 * ROWS;
 // The counts of a report.
 pub const COUNTS: usize = WRONG + 1;
 
-pub fn say_count<W: Write>(to: &mut W, name: &[u8], n: u32) -> io::Result<()> {
+pub fn say_count<W: Write>(to: &mut W, name: &[u8], n: u32) -> io::Result<()>
+    ensures { AppendsSome (W.contents to.old) (W.contents to.new) }
+{
     say_text(to, name)?;
     say_number(to, n as usize)
 }
@@ -139,6 +164,7 @@ pub fn say_count<W: Write>(to: &mut W, name: &[u8], n: u32) -> io::Result<()> {
 // The line of a number; none where its three counts are 0.
 fn say_row<W: Write>(to: &mut W, counts: &[u32; COUNTS], row: usize) -> io::Result<()>
     requires { row < 23 }
+    ensures { AppendsSome (W.contents to.old) (W.contents to.new) }
 {
     let a = counts[3 * row];
     let b = counts[3 * row + 1];
@@ -155,7 +181,9 @@ fn say_row<W: Write>(to: &mut W, counts: &[u32; COUNTS], row: usize) -> io::Resu
 }
 
 // What was counted, with a line ahead that says of what.
-pub fn say_report<W: Write>(to: &mut W, title: &[u8], counts: &[u32; COUNTS]) -> io::Result<()> {
+pub fn say_report<W: Write>(to: &mut W, title: &[u8], counts: &[u32; COUNTS]) -> io::Result<()>
+    ensures { AppendsSome (W.contents to.old) (W.contents to.new) }
+{
     say_text(to, title)?;
     for row in 0..ROWS {
         say_row(to, counts, row)?;

@@ -1,13 +1,15 @@
 -- One read or one write after another. Assumes nothing.
-use Rattle.std.proofs.Common.{◌≡◌, ℕ, ◌+◌, ◌-◌, ◌≤◌, List, ◌++◌, length, take, drop, slice_range, sym, ap, ◌∙◌, subst, arith, le_refl, drop_at, length-take-le, append_assoc, take-append-drop}
+use Rattle.std.proofs.Common.{◌≡◌, ℕ, ◌+◌, ◌-◌, ◌≤◌, List, [], ◌++◌, length, take, drop, slice_range, sym, ap, ◌∙◌, subst, arith, le_refl, drop_at, length-take-le, append_assoc, take-append-drop}
 use Rattle.std.proofs.Math.Seq.{take-append_seam}
 use Rattle.std.proofs.lemmas.Slice.{take-put_mid_below}
 use Rattle.std.specs.declared.option.Option.{Option}
 use Rattle.std.specs.Io.KnownBytes.{Appends, Consumes}
-use Rattle.std.proofs.KnownBytes.{Consumes-trans}
+use Rattle.std.specs.Prelude.{OnOk, OnErr, Ok, Err}
+use Rattle.std.specs.declared.result.Result.{Result}
+use Rattle.std.proofs.KnownBytes.{Appends-nil, Appends-trans, Consumes-trans}
 use borrow.Rule.Slice.PartMut.{put_mid, post_of}
 use lib.Seq.{take-add, take-append-le}
-use Rattle.streams.specs.Streams.{AppendsFront}
+use Rattle.streams.specs.Streams.{AppendsFront, AppendsSome}
 
 -- ---- writes
 
@@ -47,3 +49,16 @@ one-read was is now a k n buf part within fits p q =
 pub none-read : (was now : Option (List ℕ)) (a k : ℕ) (buf part : List ℕ) → a ≤ length buf → Consumes was now (take a buf) →
     Consumes was now (take a (put_mid a k buf part))
 none-read was now a k buf part within p = subst (Consumes was now) (sym (take-put_mid_below _ _ _ _ _ (le_refl _) within)) p
+
+-- ---- some bytes
+
+pub some_none : (a : Option (List ℕ)) → AppendsSome a a
+some_none a = record { bytes = []; appends = Appends-nil a }
+
+pub some_more : (a b c : Option (List ℕ)) → AppendsSome a b → AppendsSome b c → AppendsSome a c
+some_more a b c p q = record { bytes = p.bytes ++ q.bytes; appends = Appends-trans a b c _ _ p.appends q.appends }
+
+pub some_written : {E : Type 0} (r : Result (Unit {0}) E) (a b : Option (List ℕ)) (bytes : List ℕ) → OnOk r (Appends a b bytes) →
+    OnErr r (AppendsFront a b bytes) → AppendsSome a b
+some_written (Ok x) a b bytes p q = record { bytes = bytes; appends = p }
+some_written (Err e) a b bytes p q = record { bytes = take q.0 bytes; appends = q.1 }

@@ -10,3 +10,8 @@ AppendsFront old new bytes = (n : ℕ) × Appends old new (take n bytes)
 -- a reader gave a front of these bytes
 abbrev pub ConsumesFront : (old new : Option (List ℕ)) → List ℕ → Type 0
 ConsumesFront old new bytes = (n : ℕ) × Consumes old new (take n bytes)
+
+-- a writer kept what it had, and took some bytes or none
+pub record AppendsSome (old new : Option (List ℕ)) : Type 0 where
+  pub bytes : List ℕ
+  pub appends : Appends old new bytes

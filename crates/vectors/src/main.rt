@@ -6,7 +6,8 @@ ghost use Rattle.std.specs.Prelude.{◌≡◌, ◌<◌, ◌≤◌, length};
 
 use calls::{day_in, file_in, second_in};
 use say::{numbers, say_text};
-use std::io::{self, BufWriter, Read, Write};
+use std::io::{self, Write};
+use streams::read_front;
 
 pub mod calls;
 
@@ -71,22 +72,20 @@ fn run_all<W: Write>(to: &mut W, text: &[u8]) -> io::Result<()> {
 }
 
 // Room for all vectors, and more.
-fn input_room() -> usize
-    ensures { 262144 ≡ result }
+fn input_room() -> [u8; 262144]
+    ensures { 262144 ≡ length result }
 {
-    262144
+    [0; 262144]
 }
 
 // Vectors for which there is no room would go unnoticed, so it is said where none is left.
 fn main(rt: HostRuntime) -> io::Result<()> {
-    let mut text = Vec::new(rt.alloc());
-    rt.reader()
-        .take(input_room() as u64)
-        .read_to_end(&mut text)?;
-    let mut to = BufWriter::new(rt.alloc(), io::writer(&rt))?;
-    run_all(&mut to, &text)?;
-    if text.len() == input_room() {
-        say_text(&mut to, b"there may be vectors that were not read\n")?;
+    let mut text = input_room();
+    let n = read_front(&mut rt.reader(), &mut text)?;
+    let mut to = io::writer(&rt);
+    run_all(&mut to, &text[..n])?;
+    if n == text.len() {
+        return say_text(&mut to, b"there may be vectors that were not read\n");
     }
-    to.flush()
+    Ok(())
 }
