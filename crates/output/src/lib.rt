@@ -5,6 +5,7 @@ ghost use Rattle.std.specs.Prelude.{◌≡◌, ◌≤◌, ◌⊎◌, length, tak
 ghost use Rattle.std.specs.Io.KnownBytes.{Keeps};
 ghost use Rattle.dayfile.specs.declared.Written.TheVariants.{Whole};
 ghost use Rattle.listing.specs.Calls.{Lists};
+ghost use Rattle.streams.specs.Streams.{AppendsSome, ConsumesFront};
 ghost use Rattle.output.specs.Output.{PrintsPlan, StopsMark, StopsPlan, WritesMark, WritesPlan, taken};
 
 use dayfile::Written;
@@ -43,6 +44,7 @@ pub const TAKEN: usize = 65536;
 fn take_input<R: Read>(from: &mut R, file: &mut [u8; TAKEN]) -> io::Result<usize>
     ensures within { IfOk result (λ n. n ≤ length file.new) }
     ensures taken { IfOk result (λ n. IfSome (R.remaining from.old) (λ input. take n file.new ≡ taken input)) }
+    ensures front { OnErr result (ConsumesFront (R.remaining from.old) (R.remaining from.new) file.new) }
 {
     read_front(from, file)
 }
@@ -54,6 +56,7 @@ pub fn mark<R: Read, W: Write>(from: &mut R, to: &mut W) -> io::Result<()>
         (λ input. WritesMark input (W.contents to.old) (W.contents to.new))) }
     ensures front { OnErr result (IfSome (R.remaining from.old)
         (λ input. Keeps (W.contents to.old) (W.contents to.new) ⊎ StopsMark input (W.contents to.old) (W.contents to.new))) }
+    ensures kept { AppendsSome (W.contents to.old) (W.contents to.new) }
 {
     let mut file = [0u8; TAKEN];
     let taken = take_input(from, &mut file)?;
@@ -68,6 +71,7 @@ pub fn plan<R: Read, W: Write>(from: &mut R, to: &mut W) -> io::Result<()>
         (λ input. WritesPlan input (W.contents to.old) (W.contents to.new))) }
     ensures front { OnErr result (IfSome (R.remaining from.old)
         (λ input. Keeps (W.contents to.old) (W.contents to.new) ⊎ StopsPlan input (W.contents to.old) (W.contents to.new))) }
+    ensures kept { AppendsSome (W.contents to.old) (W.contents to.new) }
 {
     let mut file = [0u8; TAKEN];
     let taken = take_input(from, &mut file)?;

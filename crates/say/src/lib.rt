@@ -12,7 +12,8 @@ use text::put_decimal;
 
 pub mod numbers;
 
-// All functions that say something keep what the writer had; a write that fails ends them with the error, after a front of the text.
+// All functions that say something keep what the writer had, and end with the error where a write fails; `say_text` says also that a front
+// of its text was written then.
 pub fn say_text<W: Write>(to: &mut W, text: &[u8]) -> io::Result<()>
     ensures whole { OnOk result (Appends (W.contents to.old) (W.contents to.new) text.now) }
     ensures front { OnErr result (AppendsFront (W.contents to.old) (W.contents to.new) text.now) }

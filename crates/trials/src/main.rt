@@ -2,6 +2,8 @@
 // are drawn from a fixed start.
 #![tactic(auto)]
 
+ghost use Rattle.streams.specs.Streams.{AppendsSome};
+
 use say::{COUNTS, say_report};
 use std::io::{self, Write};
 use tally::Tally;
@@ -35,7 +37,9 @@ fn trial(kind: Kind, state: &mut u32, tally: Tally) -> Tally {
 }
 
 // So many trials of a kind, and the report of what was counted.
-fn run<W: Write>(to: &mut W, kind: Kind, n: u32, state: &mut u32, text: &[u8]) -> io::Result<()> {
+fn run<W: Write>(to: &mut W, kind: Kind, n: u32, state: &mut u32, text: &[u8]) -> io::Result<()>
+    ensures { AppendsSome (W.contents to.old) (W.contents to.new) }
+{
     let mut tally = [0u32; COUNTS];
     for _ in 0..n {
         let next = trial(kind, state, tally);

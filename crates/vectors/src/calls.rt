@@ -1,4 +1,6 @@
 // What each call of the library says, and its output buffer afterwards.
+ghost use Rattle.streams.specs.Streams.{AppendsSome};
+
 use answers::Numbers;
 use choice::Choice;
 use dayfile::{Book, Day};
@@ -55,13 +57,17 @@ pub fn day_in(numbers: &[u8]) -> Day {
     Day::new(book, caps, numbers::at(numbers, 1) == 1, sheet)
 }
 
-pub fn write<W: Write>(to: &mut W, day: Day, out: &mut [u8]) -> io::Result<()> {
+pub fn write<W: Write>(to: &mut W, day: Day, out: &mut [u8]) -> io::Result<()>
+    ensures { AppendsSome (W.contents to.old) (W.contents to.new) }
+{
     say_reply(to, replied(writer::write(out, day)))?;
     say_buffer(to, out)
 }
 
 // A file is read and, where it is accepted, written again.
-pub fn read<W: Write>(to: &mut W, file: &[u8], out: &mut [u8]) -> io::Result<()> {
+pub fn read<W: Write>(to: &mut W, file: &[u8], out: &mut [u8]) -> io::Result<()>
+    ensures { AppendsSome (W.contents to.old) (W.contents to.new) }
+{
     let reading = reader::read(file);
     let check = reading.check;
     let r = checked(check);
@@ -74,7 +80,9 @@ pub fn read<W: Write>(to: &mut W, file: &[u8], out: &mut [u8]) -> io::Result<()>
 }
 
 // A refusal; or a mark, and each number that comes with it: the others are 0.
-fn say_marking<W: Write>(to: &mut W, m: Numbers) -> io::Result<()> {
+fn say_marking<W: Write>(to: &mut W, m: Numbers) -> io::Result<()>
+    ensures { AppendsSome (W.contents to.old) (W.contents to.new) }
+{
     if m.mark == 0 {
         return say_refusal(to, m.refusal, m.offset);
     }
@@ -84,53 +92,74 @@ fn say_marking<W: Write>(to: &mut W, m: Numbers) -> io::Result<()> {
     say_named(to, b", moves ", m.moves)
 }
 
-pub fn mark<W: Write>(to: &mut W, file: &[u8], out: &mut [u8]) -> io::Result<()> {
+pub fn mark<W: Write>(to: &mut W, file: &[u8], out: &mut [u8]) -> io::Result<()>
+    ensures { AppendsSome (W.contents to.old) (W.contents to.new) }
+{
     say_marking(to, marker::mark(file, out).numbers())?;
     say_buffer(to, out)
 }
 
-pub fn plan<W: Write>(to: &mut W, file: &[u8], out: &mut [u8]) -> io::Result<()> {
+pub fn plan<W: Write>(to: &mut W, file: &[u8], out: &mut [u8]) -> io::Result<()>
+    ensures { AppendsSome (W.contents to.old) (W.contents to.new) }
+{
     say_reply(to, replied(planner::plan(file, out)))?;
     say_buffer(to, out)
 }
 
 // The listing of a file, whole.
-pub fn list<W: Write>(to: &mut W, file: &[u8], out: &mut [u8]) -> io::Result<()> {
+pub fn list<W: Write>(to: &mut W, file: &[u8], out: &mut [u8]) -> io::Result<()>
+    ensures { AppendsSome (W.contents to.old) (W.contents to.new) }
+{
     let r = replied(listing::listing(file, out));
     say_reply(to, r)?;
     say_text(to, b"\n")?;
     say_text(to, front(out, r.length))
 }
 
-fn say_sheet<W: Write>(to: &mut W, name: &[u8], file: &[u8]) -> io::Result<()> {
+fn say_sheet<W: Write>(to: &mut W, name: &[u8], file: &[u8]) -> io::Result<()>
+    ensures { AppendsSome (W.contents to.old) (W.contents to.new) }
+{
     let span = better::sheet_span(file);
     say_text(to, name)?;
     say_named(to, b", start ", span.start)?;
     say_named(to, b" length ", span.length)
 }
 
-// A refusal and the file that it is of, if it is of one; or the file that is chosen, and where its sheet lies. Then what is handed back.
-pub fn better<'a, W: Write>(to: &mut W, first: &'a [u8], second: &'a [u8]) -> io::Result<()> {
+// A refusal and the file that it is of, if it is of one; or the file that is chosen, and where its sheet lies.
+fn say_choice<'a, W: Write>(to: &mut W, first: &'a [u8], second: &'a [u8]) -> io::Result<()>
+    ensures { AppendsSome (W.contents to.old) (W.contents to.new) }
+{
     match better::choose(first, second) {
         Choice::Refused { file, number, at } => {
             say_refusal(to, number, at)?;
-            say_named(to, b", file ", file as usize)?;
+            say_named(to, b", file ", file as usize)
         }
-        Choice::First => say_sheet(to, b"first", first)?,
-        Choice::Second => say_sheet(to, b"second", second)?,
+        Choice::First => say_sheet(to, b"first", first),
+        Choice::Second => say_sheet(to, b"second", second),
     }
+}
+
+// The choice, and then what is handed back.
+pub fn better<'a, W: Write>(to: &mut W, first: &'a [u8], second: &'a [u8]) -> io::Result<()>
+    ensures { AppendsSome (W.contents to.old) (W.contents to.new) }
+{
+    say_choice(to, first, second)?;
     say_text(to, b", part ")?;
     say_hex(to, better::better(first, second))
 }
 
 // A number with its name, 0 too.
-fn say_each<W: Write>(to: &mut W, name: &[u8], n: usize) -> io::Result<()> {
+fn say_each<W: Write>(to: &mut W, name: &[u8], n: usize) -> io::Result<()>
+    ensures { AppendsSome (W.contents to.old) (W.contents to.new) }
+{
     say_text(to, name)?;
     say_number(to, n)
 }
 
 // What is replied to a row of wanted totals, in all of its numbers.
-pub fn fulfil<W: Write>(to: &mut W, file: &[u8], row: &[u8], out: &mut [u8]) -> io::Result<()> {
+pub fn fulfil<W: Write>(to: &mut W, file: &[u8], row: &[u8], out: &mut [u8]) -> io::Result<()>
+    ensures { AppendsSome (W.contents to.old) (W.contents to.new) }
+{
     let r = FulfilResult::of(fulfil::fulfil(file, row, out));
     say_each(to, b"refusal ", r.refusal as usize)?;
     say_each(to, b", offset ", r.offset)?;
@@ -140,7 +169,9 @@ pub fn fulfil<W: Write>(to: &mut W, file: &[u8], row: &[u8], out: &mut [u8]) -> 
 }
 
 // One number for each window.
-fn say_windows<W: Write>(to: &mut W, numbers: [u32; 24]) -> io::Result<()> {
+fn say_windows<W: Write>(to: &mut W, numbers: [u32; 24]) -> io::Result<()>
+    ensures { AppendsSome (W.contents to.old) (W.contents to.new) }
+{
     for w in 0..24usize {
         say_count(to, b" ", numbers[w])?;
     }
@@ -148,7 +179,9 @@ fn say_windows<W: Write>(to: &mut W, numbers: [u32; 24]) -> io::Result<()> {
 }
 
 // What a plan of a file will take, in all of its numbers.
-pub fn take<W: Write>(to: &mut W, file: &[u8]) -> io::Result<()> {
+pub fn take<W: Write>(to: &mut W, file: &[u8]) -> io::Result<()>
+    ensures { AppendsSome (W.contents to.old) (W.contents to.new) }
+{
     let r = ForecastResult::of(forecast::forecast(file));
     say_each(to, b"refusal ", r.refusal as usize)?;
     say_each(to, b", offset ", r.offset)?;

@@ -2,6 +2,7 @@
 // with # say what the vectors below them show; the other forms are explained at the top of that file.
 #![tactic(auto)]
 
+ghost use Rattle.streams.specs.Streams.{AppendsSome};
 ghost use Rattle.std.specs.Prelude.{◌≡◌, ◌<◌, ◌≤◌, length};
 
 use calls::{day_in, file_in, second_in};
@@ -15,7 +16,9 @@ pub mod calls;
 const ROOM: usize = 4096;
 
 // A call's answer, by the word's first letter.
-fn answer<W: Write>(to: &mut W, word: u8, numbers: &[u8], out: &mut [u8]) -> io::Result<()> {
+fn answer<W: Write>(to: &mut W, word: u8, numbers: &[u8], out: &mut [u8]) -> io::Result<()>
+    ensures { AppendsSome (W.contents to.old) (W.contents to.new) }
+{
     let file = file_in(numbers);
     match word {
         b'r' => calls::read(to, file, out),
@@ -31,7 +34,9 @@ fn answer<W: Write>(to: &mut W, word: u8, numbers: &[u8], out: &mut [u8]) -> io:
 }
 
 // A line and the answer to it. Its first number is the length of the output buffer, whose bytes are all 255 before the call.
-fn run<W: Write>(to: &mut W, line: &[u8]) -> io::Result<()> {
+fn run<W: Write>(to: &mut W, line: &[u8]) -> io::Result<()>
+    ensures { AppendsSome (W.contents to.old) (W.contents to.new) }
+{
     say_text(to, line)?;
     if line.len() == 0 {
         return Ok(());
@@ -61,7 +66,9 @@ fn line_end(text: &[u8], start: usize) -> usize
     i
 }
 
-fn run_all<W: Write>(to: &mut W, text: &[u8]) -> io::Result<()> {
+fn run_all<W: Write>(to: &mut W, text: &[u8]) -> io::Result<()>
+    ensures { AppendsSome (W.contents to.old) (W.contents to.new) }
+{
     let mut start = 0;
     while start < text.len() {
         let end = line_end(text, start);

@@ -1,0 +1,5 @@
+use Rattle.streams.proofs.Turns.{some_more}
+use Rattle.vectors.proofs.run.Goals as goal
+
+pub returns : goal.returns
+returns g c = some_more _ _ _ c.say_text.ensures.kept c.answer.ensures
