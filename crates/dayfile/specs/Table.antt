@@ -1,7 +1,8 @@
 -- Paper 01, "Where each file is turned away", with the lines of paper 02: each line of the table gives the lowest offset at which its
 -- condition holds, or nothing.
 -- The comments are the table's own words: the condition, and the offset given.
-use Rattle.std.specs.Prelude.{Bool, true, false, not, cond, ◌&&◌, ◌||◌, List, [], ◌∷◌, ◌++◌, ℕ, zero, suc, ◌+◌, ◌-◌, ◌*◌, ◌%◌, leb, ltb, eqb, length}
+use Rattle.std.specs.Prelude.{Bool, true, false, not, cond, ◌&&◌, ◌||◌, List, [], ◌∷◌, ◌++◌, ℕ, zero, suc, ◌+◌, ◌-◌, ◌*◌, ◌%◌, leb, ltb}
+use Rattle.std.specs.Prelude.{eqb, length}
 use Rattle.std.proofs.Math.Option.{Option, none, some}
 use Rattle.fairness.specs.Sums.{sum}
 use Rattle.model.specs.Lowest.{lowest, when, or_else, and_then, is_some}

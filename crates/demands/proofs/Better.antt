@@ -65,7 +65,8 @@ unfolding sheet_lines
 sound-of f passed = sound f (none-parts (read_lines f) (marker_lines f) passed).0
 
 -- a file with a lawful sheet, and what the marker says of it
-marked-of : (f before after : List ℕ) (r : Marking) → first_of (sheet_lines f) ≡ none → moves_room ≤ length before → Marks f before after r →
+marked-of : (f before after : List ℕ) (r : Marking) → first_of (sheet_lines f) ≡ none → moves_room ≤ length before →
+    Marks f before after r →
     Marked f (book_of f) (marked_sheet f) before after r
 unfolding sheet_lines read_file
 marked-of f before after r passed long marks =
@@ -81,7 +82,8 @@ sheet-of : (f : List ℕ) → first_of (sheet_lines f) ≡ none → SheetOf (boo
 sheet-of f passed = (accepted-sheet f (marker-free f passed), accepted-lawful f (marker-free f passed))
 
 -- where a sheet passes, so does another of its book whose list is not lower
-passes-too : (b : Book) (s t : Grid) → SheetOf b t → Lawful b t → (xs : List Level) → HighestList b xs → Equal NoHigher (profile_of b s) xs →
+passes-too : (b : Book) (s t : Grid) → SheetOf b t → Lawful b t → (xs : List Level) → HighestList b xs →
+    Equal NoHigher (profile_of b s) xs →
     (Higher NoHigher (profile_of b s) (profile_of b t) → ⊥) → (Higher NoHigher (profile_of b t) (profile_of b s) → ⊥) →
     Equal NoHigher (profile_of b t) xs
 passes-too b s t shape lawful xs top same not-above not-below = go (same-higher-lower (instance_of b) (cell t) (cell s))
@@ -151,12 +153,14 @@ module _ (f g : List ℕ) (side : Side) (c : ChosenOf f g side) where
   on-one-book second = parts-back (book_of f) (book_of g) parts.1.1
 
 module _ (f g : List ℕ) where
-  pub inside : (side : Side) → ChosenOf f g side → sheet_start (file_on side f g) + sheet_size (file_on side f g) ≤ length (file_on side f g)
+  pub inside : (side : Side) → ChosenOf f g side → sheet_start (file_on side f g) + sheet_size (file_on side f g)
+      ≤ length (file_on side f g)
   unfolding sheet_lines
   inside side c = sheet-inside (file_on side f g) (sound-of (file_on side f g) (lawful-on f g side c side))
 
   pub same_sheet : (side : Side) → ChosenOf f g side →
-      grid_at (sheet_body (file_on side f g)) 0 (seats_in (file_on side f g)) (windows_in (file_on side f g)) ≡ marked_sheet (file_on side f g)
+      grid_at (sheet_body (file_on side f g)) 0 (seats_in (file_on side f g)) (windows_in (file_on side f g))
+          ≡ marked_sheet (file_on side f g)
   same_sheet side c =
       let h = file_on side f g in
       let free = lawful-on f g side c side in

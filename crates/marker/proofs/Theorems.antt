@@ -53,7 +53,8 @@ module _ (file before after : List ℕ) (r : Marking) where
       go (some q) e = (tells-refusal marks q e).0
       go none e = let x = tells-answer marks e in x.1.0 ∙ ap answer x.1.1.0
 
-  pub marks-buffer : Marks file before after r → BufferAfter (book_of file) (marked_sheet file) (mark_file file (length before)) before after
+  pub marks-buffer : Marks file before after r →
+      BufferAfter (book_of file) (marked_sheet file) (mark_file file (length before)) before after
   unfolding mark_file
   marks-buffer marks = go (first_of (mark_lines file (length before))) refl
     where

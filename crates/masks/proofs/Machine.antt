@@ -102,7 +102,8 @@ trailing (suc n) m p h = go (m % 2) refl (λ q. trailing n (m / 2) q (omega (ari
         → Trailing (suc n) m (under d (count_trailing_zeros n (m / 2)))
     go zero e rest = let t = rest (omega arith) in record { small = omega (arith, t.small); here = t.here; least = below t.least }
       where
-        below : ((k : ℕ) → k < count_trailing_zeros n (m / 2) → bit (m / 2) k ≡ 0) → (k : ℕ) → k < suc (count_trailing_zeros n (m / 2)) → bit m k ≡ 0
+        below : ((k : ℕ) → k < count_trailing_zeros n (m / 2) → bit (m / 2) k ≡ 0) → (k : ℕ) → k < suc (count_trailing_zeros n (m / 2)) →
+            bit m k ≡ 0
         below f zero l = e
         below f (suc k) l = f k (omega arith)
     go (suc d) e rest = record { small = omega arith; here = omega arith; least = λ k l. absurd (omega arith) }

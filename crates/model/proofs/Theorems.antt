@@ -256,7 +256,8 @@ missing-are-zeros b =
     }) (fun_ext (λ i. sym (zeros-at (seats b) i)))
 
 -- and every sheet has the same mark
-pub missing-same-mark : (b : Book) (s : Grid) → mark_of (with_balances none b) s ≡ mark_of (with_balances (some (replicate (seats b) 0)) b) s
+pub missing-same-mark : (b : Book) (s : Grid) → mark_of (with_balances none b) s
+    ≡ mark_of (with_balances (some (replicate (seats b) 0)) b) s
 missing-same-mark b s = same-mark (with_balances none b) (with_balances (some (replicate (seats b) 0)) b) (missing-are-zeros b) s
 
 -- All theorems are of any table of weights, and paper 01's is a case of it: a book without weights of its own is the same instance as with

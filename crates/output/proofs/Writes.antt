@@ -8,7 +8,8 @@ use Rattle.std.specs.declared.result.Result.{Result}
 use Rattle.std.specs.Io.KnownBytes.{Consumes, IsAtEnd}
 
 -- a buffer that was filled, or into which all was read that there was, has the front of the input
-taken-whole : (limit : ℕ) (was now : Option (List ℕ)) (buf : List ℕ) (n : ℕ) → length buf ≡ limit → n ≤ length buf → Consumes was now (take n buf) →
+taken-whole : (limit : ℕ) (was now : Option (List ℕ)) (buf : List ℕ) (n : ℕ) → length buf ≡ limit → n ≤ length buf →
+    Consumes was now (take n buf) →
     (n < length buf → IsAtEnd now) → IfSome was (λ input. take n buf ≡ take limit input)
 taken-whole limit None now buf n long within given end = tt
 taken-whole limit (Some input) None buf n long within given end = absurd given

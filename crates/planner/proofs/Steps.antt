@@ -67,7 +67,8 @@ module _ (f : List ℕ) (room : ℕ) where
       ∙ sym (first-both (idle_lines f) buffer)
 
   -- what the two checks behind the reader's say
-  pub rest-told : (need : ℕ) → need ≡ planned_length (book_of f) → {x a b : Option Refusal} → x ≡ or_else a b → a ≡ first_of (idle_lines f) →
+  pub rest-told : (need : ℕ) → need ≡ planned_length (book_of f) → {x a b : Option Refusal} → x ≡ or_else a b →
+      a ≡ first_of (idle_lines f) →
       b ≡ first_of (buffer_lines room need) → x ≡ first_of (idle_lines f ++ buffer_lines room (planned_length (book_of f)))
   rest-told need e both idle short =
       both ∙ ap₂ or_else idle (short ∙ ap (λ (k : ℕ). first_of (buffer_lines room k)) e) ∙ sym (first-both (idle_lines f) _)

@@ -40,6 +40,7 @@ returns c =
     let a = c.args in
     let scores = scored a.grid.now a.caps.now a.t at.seat _ at.heights (search rules) at.invariant in
     let graph = c.graph_of.result in
-    let moves = drawn (instance_in a.t a.caps.now) (cell a.grid.now) graph c.graph_of.ensures in let h = finds-right a.t a.caps.now a.grid.now c.requires.small.ranged _ graph scores
+    let moves = drawn (instance_in a.t a.caps.now) (cell a.grid.now) graph c.graph_of.ensures in
+    let h = finds-right a.t a.caps.now a.grid.now c.requires.small.ranged _ graph scores
     (λ J S told shows. drawn-told a.t a.caps.now a.grid.now J S told shows graph moves)
     c.find.result.kind _ c.find.ensures in record { writable = h.0; answers = h.1 }

@@ -18,7 +18,8 @@ loop-w-preserved c =
     let has = added-in a.holders a.cells.now a.seat at.w at.all at.invariant.1.1 in
     let has-not = added_out a.holders a.cells.now a.seat at.w at.all at.invariant.1.1 in
     elim c.if-cells-w-gt0.branch [
-      | then-cells-w-gt0 w ↦ rw w.all-is (search rules, (simp length-set long, has _ (omega (arith, long)) w.if-cells-w-gt0.true w.insert.ensures))
+      | then-cells-w-gt0 w ↦ rw w.all-is
+          (search rules, (simp length-set long, has _ (omega (arith, long)) w.if-cells-w-gt0.true w.insert.ensures))
       | else-cells-w-gt0 w ↦ rw w.all-is (search rules, (long, has-not (λ p. omega (arith, p, w.if-cells-w-gt0.false))))
     ]
 

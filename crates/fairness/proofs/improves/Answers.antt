@@ -7,7 +7,8 @@ use Rattle.fairness.proofs.Products.{moderate-fits, rest-fits, improves-rest}
 use Rattle.fairness.proofs.improves.Goals as goal
 
 pub returns-then-level-donor_level : goal.returns-then-level-donor_level
-returns-then-level-donor_level c = or_yes _ _ (lt-ltb _ _ c.if-level-donor_level.true) ∙ sym (improves-rest _ _ _ _ _ c.less_one-rest.ensures)
+returns-then-level-donor_level c =
+    or_yes _ _ (lt-ltb _ _ c.if-level-donor_level.true) ∙ sym (improves-rest _ _ _ _ _ c.less_one-rest.ensures)
 
 pub returns-then-level-donor_level-2 : goal.returns-then-level-donor_level-2
 returns-then-level-donor_level-2 c =

@@ -5,7 +5,8 @@ use Rattle.grant.proofs.Groups.{some-group, of-group, of_none, alone-small, gran
 use Rattle.grant.proofs.grant.Goals as goal
 
 pub returns-then-alone-ne0 : goal.returns-then-alone-ne0
-returns-then-alone-ne0 c = λ I told. some-group _ _ _ c.if-alone-ne0.true (of-group _ _ _ c.if-alone-ne0.true (c.alone_group-alone.ensures I told))
+returns-then-alone-ne0 c =
+    λ I told. some-group _ _ _ c.if-alone-ne0.true (of-group _ _ _ c.if-alone-ne0.true (c.alone_group-alone.ensures I told))
 
 pub settle_short-group-requires : goal.settle_short-group-requires
 settle_short-group-requires c =
@@ -18,7 +19,8 @@ settle_short-group-requires c =
     }
 
 pub returns-then-group-ne0 : goal.returns-then-group-ne0
-returns-then-group-ne0 c = λ I told. some-group _ _ _ c.if-group-ne0.true (of-group _ _ _ c.if-group-ne0.true (c.settle_short-group.ensures I told))
+returns-then-group-ne0 c =
+    λ I told. some-group _ _ _ c.if-group-ne0.true (of-group _ _ _ c.if-group-ne0.true (c.settle_short-group.ensures I told))
 
 pub returns : goal.returns
 returns c =

@@ -20,8 +20,10 @@ returns c =
 
 pub overflow_mul-result : goal.overflow_mul-result
 overflow_mul-result c =
-    let below : c.in-At.seat < 32 = idle-below _ c.args.book _ c.requires.0 c.requires.1 _ (at-line c.idle_seat.ensures c.in-At.is) in search (rules, below)
+    let below : c.in-At.seat < 32 = idle-below _ c.args.book _ c.requires.0 c.requires.1 _ (at-line c.idle_seat.ensures c.in-At.is) in
+    search (rules, below)
 
 pub overflow_add-result : goal.overflow_add-result
 overflow_add-result c =
-    let below : c.in-At.seat < 32 = idle-below _ c.args.book _ c.requires.0 c.requires.1 _ (at-line c.idle_seat.ensures c.in-At.is) in search (rules, below)
+    let below : c.in-At.seat < 32 = idle-below _ c.args.book _ c.requires.0 c.requires.1 _ (at-line c.idle_seat.ensures c.in-At.is) in
+    search (rules, below)

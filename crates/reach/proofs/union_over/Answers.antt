@@ -12,7 +12,8 @@ offset_bounds-sets-i c = let l = c.lowest-i.ensures.small in search rules
 
 pub bounds-sets-i : goal.bounds-sets-i
 bounds-sets-i c =
-    let in-sets : c.lowest-i.result < length c.args.sets.now = c.requires _ (member _ _ _ _ c.loop-left.invariant _ c.lowest-i.ensures) in in-sets
+    let in-sets : c.lowest-i.result < length c.args.sets.now = c.requires _ (member _ _ _ _ c.loop-left.invariant _ c.lowest-i.ensures) in
+    in-sets
 
 pub loop-left-smaller : goal.loop-left-smaller
 loop-left-smaller c =

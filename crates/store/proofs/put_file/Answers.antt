@@ -48,5 +48,6 @@ returns c =
     let b = contents-put a.book a.caps.now a.has_sheet a.sheet.now a.out.now c.requires.sheet_in_bounds
     c.slots_of.ensures c.put_contents-p.ensures in
     let k = begun-next (begun-next b c.put_lists-p.ensures) c.put_rows-p.ensures in
-    let l = begun-next k (sheet-put a.book a.has_sheet a.sheet.now n.0 c.put_rows-p-2.ensures) in let h = file-front a.book a.caps.now a.has_sheet a.sheet.now a.out.now c.requires.sheet_in_bounds
+    let l = begun-next k (sheet-put a.book a.has_sheet a.sheet.now n.0 c.put_rows-p-2.ensures) in
+    let h = file-front a.book a.caps.now a.has_sheet a.sheet.now a.out.now c.requires.sheet_in_bounds
     (begun-next l c.put_options.ensures) in record { length = h.0; file = h.1 }

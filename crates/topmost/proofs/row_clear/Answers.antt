@@ -17,7 +17,8 @@ loop-j-preserved c =
     let next = clear_next at.j c.args.sets c.args.rooms c.args.holds at.invariant.1 in (
       search rules,
       next (λ r w l m. elim c.if-has.branch [
-        | then-has+else-intersect-ne0 x ↦ none_after _ _ at.j _ _ _ x.full.ensures x.minus-after.ensures x.intersect.ensures x.if-intersect-ne0.false w l m
+        | then-has+else-intersect-ne0 x ↦ none_after _ _ at.j _ _ _ x.full.ensures x.minus-after.ensures x.intersect.ensures
+            x.if-intersect-ne0.false w l m
         | else-has x ↦ absurd (has-out _ _ _ c.has.ensures x.if-has.false r)
       ]),
     )

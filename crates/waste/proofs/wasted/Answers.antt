@@ -13,14 +13,16 @@ pub returns-in-At : goal.returns-in-At
 returns-in-At c =
     let placed = c.placed-placed in
     let found = at-line c.seat_below.ensures c.in-At.is in
-    let here = search-hit c.loop-window.invariant c.loop-window-test.true (ap₂ ◌&&◌ (lt-ltb _ _ c.if-placed-window.true) (ap is_some found)) in
+    let here =
+        search-hit c.loop-window.invariant c.loop-window-test.true (ap₂ ◌&&◌ (lt-ltb _ _ c.if-placed-window.true) (ap is_some found)) in
     wasted-at _ _ _ placed.result placed.ensures _ _ here c.loop-window-test.true found
 
 pub loop-window-preserved : goal.loop-window-preserved
 loop-window-preserved c =
     search-on c.loop-window.invariant c.loop-window-test.true
     (elim c.if-placed-window.branch [
-      | then-placed-window+in_default w ↦ ap₂ ◌&&◌ (lt-ltb _ _ w.if-placed-window.true) (ap is_some (no_line w.seat_below.ensures w.in_default.is))
+      | then-placed-window+in_default w ↦ ap₂ ◌&&◌ (lt-ltb _ _ w.if-placed-window.true)
+          (ap is_some (no_line w.seat_below.ensures w.in_default.is))
       | else-placed-window w ↦ rw (le-ltb _ _ w.if-placed-window.false) refl
     ])
 

@@ -8,7 +8,10 @@ pub returns-in_err-say_each-3 : goal.returns-in_err-say_each-3
 returns-in_err-say_each-3 g c = some_more _ _ _ (some_more _ _ _ c.say_each.ensures c.say_each-2.ensures) c.say_each-3.ensures
 
 pub returns-in_err-say_text : goal.returns-in_err-say_text
-returns-in_err-say_text g c = some_more _ _ _ (some_more _ _ _ (some_more _ _ _ c.say_each.ensures c.say_each-2.ensures) c.say_each-3.ensures) c.say_text.ensures.kept
+returns-in_err-say_text g c =
+    some_more _ _ _ (some_more _ _ _ (some_more _ _ _ c.say_each.ensures c.say_each-2.ensures) c.say_each-3.ensures) c.say_text.ensures.kept
 
 pub returns : goal.returns
-returns g c = some_more _ _ _ (some_more _ _ _ (some_more _ _ _ (some_more _ _ _ c.say_each.ensures c.say_each-2.ensures) c.say_each-3.ensures) c.say_text.ensures.kept) c.say_windows.ensures
+returns g c =
+    some_more _ _ _ (some_more _ _ _ (some_more _ _ _ (some_more _ _ _ c.say_each.ensures c.say_each-2.ensures) c.say_each-3.ensures)
+        c.say_text.ensures.kept) c.say_windows.ensures
