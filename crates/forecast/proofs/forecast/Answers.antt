@@ -10,6 +10,7 @@ use Rattle.dayfile.proofs.Lines.{stop-in, on-after}
 use Rattle.dayfile.proofs.Readings.{read-refused, read-sound, read-book, read-book-fits}
 use Rattle.dayfile.proofs.Used.{range-in}
 use Rattle.forecast.proofs.Figures.{length-in, forecast-refused, forecast-told}
+use Rattle.forecast.proofs.forecast.Goals.{In_default, After-to_grid-caps}
 use Rattle.forecast.proofs.forecast.Goals as goal
 
 pub returns-in-Refused : goal.returns-in-Refused
@@ -20,36 +21,49 @@ returns-in-Refused c =
 
 -- ---- no line of the reader's holds
 
+accepted : (c : In_default) → first_of (read_lines c.args.file.now) ≡ none
+accepted c = read-sound _ _ c.read-reading.ensures c.in_default.is
+
+-- the file's book is in memory, its caps as an array of arrays
+the-book : (c : After-to_grid-caps) → book_in c.read-reading.result.day.book c.to_grid-caps.result ≡ book_of c.args.file.now
+the-book c =
+    let reads = c.read-reading.ensures in
+    read-book _ _ reads (read-sound _ _ reads c.in_default.is) _ c.to_grid-caps.ensures
+
+the-fit : (c : After-to_grid-caps) → Fit (book_in c.read-reading.result.day.book c.to_grid-caps.result)
+the-fit c =
+    let reads = c.read-reading.ensures in
+    read-book-fits _ _ reads (read-sound _ _ reads c.in_default.is) _ c.to_grid-caps.ensures
+
 pub check_idle-requires : goal.check_idle-requires
 check_idle-requires c =
-    let accepted : first_of (read_lines c.args.file.now) ≡ none = read-sound _ _ c.read-reading.ensures c.in_default.is in
-    let the-book : book_in c.read-reading.result.day.book c.to_grid-caps.result ≡ book_of c.args.file.now = read-book _ _ c.read-reading.ensures accepted _ c.to_grid-caps.ensures in
-    let the-fit : Fit (book_in c.read-reading.result.day.book c.to_grid-caps.result) = read-book-fits _ _ c.read-reading.ensures accepted _ c.to_grid-caps.ensures in (the-book, the-fit)
+    let ready = (goal.at.check_idle-requires c).After-to_grid-caps in
+    (the-book ready, the-fit ready)
 
 pub returns-in-Refused-check_idle : goal.returns-in-Refused-check_idle
 returns-in-Refused-check_idle c =
-    let accepted : first_of (read_lines c.args.file.now) ≡ none = read-sound _ _ c.read-reading.ensures c.in_default.is in
     let refused = refuses c.check_idle.ensures c.in-Refused-check_idle.is in
     let away = c.turned_away-in-Refused-check_idle.ensures in
-    forecast-refused _ _ _ (on-after (read_lines _) (idle_lines _) accepted ∙ refused) away.0 away.1
+    let on = on-after (read_lines _) (idle_lines _) (accepted (goal.at.returns-in-Refused-check_idle c).In_default) in
+    forecast-refused _ _ _ (on ∙ refused) away.0 away.1
 
 -- ---- nor is a seat idle
 
 pub file_length-length-requires : goal.file_length-length-requires
 file_length-length-requires c =
-    let accepted : first_of (read_lines c.args.file.now) ≡ none = read-sound _ _ c.read-reading.ensures c.in_default.is in
-    let the-fit : Fit (book_in c.read-reading.result.day.book c.to_grid-caps.result) = read-book-fits _ _ c.read-reading.ensures accepted _ c.to_grid-caps.ensures in range-in _ _ the-fit
+    let ready = (goal.at.file_length-length-requires c).After-to_grid-caps in
+    range-in _ _ (the-fit ready)
 
 pub to_place-placed-requires : goal.to_place-placed-requires
 to_place-placed-requires c =
-    let accepted : first_of (read_lines c.args.file.now) ≡ none = read-sound _ _ c.read-reading.ensures c.in_default.is in
-    let the-fit : Fit (book_in c.read-reading.result.day.book c.to_grid-caps.result) = read-book-fits _ _ c.read-reading.ensures accepted _ c.to_grid-caps.ensures in range-in _ _ the-fit
+    let ready = (goal.at.to_place-placed-requires c).After-to_grid-caps in
+    range-in _ _ (the-fit ready)
 
 pub returns : goal.returns
 returns c =
-    let accepted : first_of (read_lines c.args.file.now) ≡ none = read-sound _ _ c.read-reading.ensures c.in_default.is in
-    let the-book : book_in c.read-reading.result.day.book c.to_grid-caps.result ≡ book_of c.args.file.now = read-book _ _ c.read-reading.ensures accepted _ c.to_grid-caps.ensures in
+    let ready = (goal.at.returns c).After-to_grid-caps in
     let caps = c.to_grid-caps.result in
     let free = passes c.check_idle.ensures c.in_default-check_idle.is in
-    forecast-told _ (on-after (read_lines _) (idle_lines _) accepted ∙ free) _ caps the-book _ _
+    let on = on-after (read_lines _) (idle_lines _) (accepted (goal.at.returns c).In_default) in
+    forecast-told _ (on ∙ free) _ caps (the-book ready) _ _
     (c.file_length-length.ensures caps caps ∙ length-in _ caps) c.to_place-placed.ensures

@@ -1,5 +1,4 @@
 -- `listing::put_day` meets its contract: what is in memory gives the listing of its book and sheet.
-use Prim.Native.Nat.{◌≤◌}
 use Rattle.sheet.specs.Sheets.{grid_of}
 use Rattle.answers.specs.Answers.{result_in}
 use Rattle.dayfile.proofs.Used.{range-in}
@@ -8,9 +7,10 @@ use Rattle.listing.proofs.put_day.Goals as goal
 
 pub put_listing-requires : goal.put_listing-requires
 put_listing-requires c =
-    let size : (c.args.day.book.seats ≤ 32) × (c.args.day.book.windows ≤ 24) = let d = c.args.day in range-in d.book (grid_of d.caps) c.requires.fit.0 in record {
+    let d = c.args.day in
+    record {
       listing_max_in_bounds = c.requires.fit.1;
-      seats_bound = size;
+      seats_bound = range-in d.book (grid_of d.caps) c.requires.fit.0;
       moves_bound = c.requires.moves_bound;
     }
 
@@ -24,4 +24,5 @@ returns c ms rest stand count =
 
 pub sums_of-sums-requires : goal.sums_of-sums-requires
 sums_of-sums-requires c =
-    let size : (c.args.day.book.seats ≤ 32) × (c.args.day.book.windows ≤ 24) = let d = c.args.day in range-in d.book (grid_of d.caps) c.requires.fit.0 in size
+    let d = c.args.day in
+    range-in d.book (grid_of d.caps) c.requires.fit.0
