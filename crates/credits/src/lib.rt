@@ -1,5 +1,5 @@
-// The library for C, Rust and Python: every public call, in the order of include/credits.h; `credits_c` exports them. What crosses is numbers,
-// slices and structs of numbers. The contracts are in specs/Calls.antt.
+// The library for C, Rust and Python: every public call, in the order of include/credits.h; `credits_c` exports them. What crosses is
+// numbers, slices and structs of numbers. The contracts are in specs/Calls.antt.
 #![tactic(auto)]
 
 ghost use Rattle.credits.specs.Calls.{ReadsAs, WritesAs, MarksAs, PlansAs, ListsAs, BettersAs, FulfilsAs, ForecastsAs};

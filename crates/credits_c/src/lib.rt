@@ -1,4 +1,5 @@
-// The archive for C, Rust and Python: every call of `credits`, exported under its name with its contract, in the order of include/credits.h.
+// The archive for C, Rust and Python: every call of `credits`, exported under its name with its contract, in the order of
+// include/credits.h.
 #![tactic(auto)]
 
 ghost use Rattle.credits.specs.Calls.{ReadsAs, WritesAs, MarksAs, PlansAs, ListsAs, BettersAs, FulfilsAs, ForecastsAs};
