@@ -30,34 +30,22 @@ pub record PrintsPlan (file before after : List ℕ) (r : ℕ) : Type 0 where
 abbrev pub taken : List ℕ → List ℕ
 taken input = take 65536 input
 
--- what `mark` writes: the front of a buffer, the listing of what it takes
-pub record WritesMark (input : List ℕ) (old new : Option (List ℕ)) : Type 0 where
+-- the contract of what `mark` prints, like that of `plan`: the first r bytes of the buffer are the listing
+abbrev pub PrintsMark : (file before after : List ℕ) → ℕ → Type 0
+PrintsMark file before after r = Lists file before after (Whole r)
+
+-- a writer took what a program prints, the front of a buffer, where P is the contract of that
+pub record Writes (P : (before after : List ℕ) → ℕ → Type 0) (old new : Option (List ℕ)) : Type 0 where
   pub before : List ℕ
   pub after : List ℕ
   pub size : ℕ
-  pub lists : Lists (taken input) before after (Whole size)
+  pub prints : P before after size
   pub bytes : Appends old new (take size after)
 
--- and where a write fails
-pub record StopsMark (input : List ℕ) (old new : Option (List ℕ)) : Type 0 where
+-- or, where a write failed, a front of that
+pub record Stops (P : (before after : List ℕ) → ℕ → Type 0) (old new : Option (List ℕ)) : Type 0 where
   pub before : List ℕ
   pub after : List ℕ
   pub size : ℕ
-  pub lists : Lists (taken input) before after (Whole size)
-  pub bytes : AppendsFront old new (take size after)
-
--- what `plan` writes
-pub record WritesPlan (input : List ℕ) (old new : Option (List ℕ)) : Type 0 where
-  pub before : List ℕ
-  pub after : List ℕ
-  pub size : ℕ
-  pub prints : PrintsPlan (taken input) before after size
-  pub bytes : Appends old new (take size after)
-
--- and where a write fails
-pub record StopsPlan (input : List ℕ) (old new : Option (List ℕ)) : Type 0 where
-  pub before : List ℕ
-  pub after : List ℕ
-  pub size : ℕ
-  pub prints : PrintsPlan (taken input) before after size
+  pub prints : P before after size
   pub bytes : AppendsFront old new (take size after)

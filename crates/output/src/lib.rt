@@ -6,7 +6,7 @@ ghost use Rattle.std.specs.Io.KnownBytes.{Keeps};
 ghost use Rattle.dayfile.specs.declared.Written.TheVariants.{Whole};
 ghost use Rattle.listing.specs.Calls.{Lists};
 ghost use Rattle.streams.specs.Streams.{AppendsSome, ConsumesFront};
-ghost use Rattle.output.specs.Output.{PrintsPlan, StopsMark, StopsPlan, WritesMark, WritesPlan, taken};
+ghost use Rattle.output.specs.Output.{PrintsMark, PrintsPlan, Stops, Writes, taken};
 
 use dayfile::Written;
 use std::io::{self, Read, Write};
@@ -53,9 +53,10 @@ fn take_input<R: Read>(from: &mut R, file: &mut [u8; TAKEN]) -> io::Result<usize
 // had to write.
 pub fn mark<R: Read, W: Write>(from: &mut R, to: &mut W) -> io::Result<()>
     ensures whole { OnOk result (IfSome (R.remaining from.old)
-        (λ input. WritesMark input (W.contents to.old) (W.contents to.new))) }
+        (λ input. Writes (PrintsMark (taken input)) (W.contents to.old) (W.contents to.new))) }
     ensures front { OnErr result (IfSome (R.remaining from.old)
-        (λ input. Keeps (W.contents to.old) (W.contents to.new) ⊎ StopsMark input (W.contents to.old) (W.contents to.new))) }
+        (λ input. Keeps (W.contents to.old) (W.contents to.new)
+        ⊎ Stops (PrintsMark (taken input)) (W.contents to.old) (W.contents to.new))) }
     ensures kept { AppendsSome (W.contents to.old) (W.contents to.new) }
 {
     let mut file = [0u8; TAKEN];
@@ -68,9 +69,10 @@ pub fn mark<R: Read, W: Write>(from: &mut R, to: &mut W) -> io::Result<()>
 // The program `plan`, likewise.
 pub fn plan<R: Read, W: Write>(from: &mut R, to: &mut W) -> io::Result<()>
     ensures whole { OnOk result (IfSome (R.remaining from.old)
-        (λ input. WritesPlan input (W.contents to.old) (W.contents to.new))) }
+        (λ input. Writes (PrintsPlan (taken input)) (W.contents to.old) (W.contents to.new))) }
     ensures front { OnErr result (IfSome (R.remaining from.old)
-        (λ input. Keeps (W.contents to.old) (W.contents to.new) ⊎ StopsPlan input (W.contents to.old) (W.contents to.new))) }
+        (λ input. Keeps (W.contents to.old) (W.contents to.new)
+        ⊎ Stops (PrintsPlan (taken input)) (W.contents to.old) (W.contents to.new))) }
     ensures kept { AppendsSome (W.contents to.old) (W.contents to.new) }
 {
     let mut file = [0u8; TAKEN];
