@@ -40,7 +40,7 @@ small f before after r m = rw (marks-says f before after r m) (go (first_of (mar
     go (some q) e = tt
     go none e =
         let read =
-            (none-parts (read_lines f) (marker_lines f) (none-parts (sheet_lines f) (buffer_lines (length before) moves_room) e).0).0 in
+        (none-parts (read_lines f) (marker_lines f) (none-parts (sheet_lines f) (buffer_lines (length before) moves_room) e).0).0 in
         let fit = fits f (sound f read) in
         let within = within-book (book_of f) (marked_sheet f) in (
           omega (arith, within.window, fit.windows_high),

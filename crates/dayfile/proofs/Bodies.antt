@@ -70,4 +70,4 @@ module _ (f : List ℕ) (s : Sound f) (e : ℕ) (entry : entry_of f 4 ≡ some e
           let cell : i * windows_in f + j < seats_in f * windows_in f = digits_lt li lj in
           part_field f (start f e) (size f e) (0 + 2 * (i * windows_in f) + 2 * j) (omega (arith, size_is))
           ∙ ap (field f) {x = start f e + (0 + 2 * (i * windows_in f) + 2 * j)}
-              {y = start f e + 2 * (i * windows_in f) + 2 * j} (omega arith)
+          {y = start f e + 2 * (i * windows_in f) + 2 * j} (omega arith)

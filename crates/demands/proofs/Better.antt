@@ -160,7 +160,7 @@ module _ (f g : List ℕ) where
 
   pub same_sheet : (side : Side) → ChosenOf f g side →
       grid_at (sheet_body (file_on side f g)) 0 (seats_in (file_on side f g)) (windows_in (file_on side f g))
-          ≡ marked_sheet (file_on side f g)
+      ≡ marked_sheet (file_on side f g)
   same_sheet side c =
       let h = file_on side f g in
       let free = lawful-on f g side c side in

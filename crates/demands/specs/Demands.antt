@@ -172,7 +172,7 @@ pub record BetterOfTwo : Type 0 where
   -- and is the sheet of that file: the same cells, read from its own bytes
   pub same_sheet : (f g : List ℕ) (side : Side) → ChosenOf f g side →
       grid_at (sheet_body (file_on side f g)) 0 (seats_in (file_on side f g)) (windows_in (file_on side f g))
-          ≡ marked_sheet (file_on side f g)
+      ≡ marked_sheet (file_on side f g)
   -- its list is not lower than the other's
   pub not_lower : (f g : List ℕ) (side : Side) → ChosenOf f g side →
       Higher NoHigher (list_of (file_on side f g)) (list_of (file_on (other side) f g)) → ⊥

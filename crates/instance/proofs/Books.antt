@@ -86,7 +86,7 @@ module _ (m : Memory.Book) (caps : Grid) (fit : Fit (book_in m caps)) where
   -- a seat's weight is the one in force of its class
   seat-weight : (other : Grid) (i : ℕ) → i < m.seats
       → weight_in (weights_of (book_in m other)) (get_or (book_in m other).classes i 0)
-          ≡ get_or (weights_in_force m) (get_or m.classes i 0 - 1) 0
+      ≡ get_or (weights_in_force m) (get_or m.classes i 0 - 1) 0
   seat-weight other i l =
       let class : ℕ = get_or m.classes i 0 in
       let r = class-ranged i l in

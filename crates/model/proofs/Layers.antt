@@ -86,8 +86,10 @@ module _ (b : Book) (s : Grid) where
         to : (l ≡ g) ⊎ In l [] → g ≡ l
         to (inl e) = sym e
         to (inr e) = absurd (in-nil l e)
-    layer-within (suc r) l = (λ e. to (λ l. (layer-within r l).0) ((in-grow (layer b s g r) l).0 e),
-        λ w. from (λ l. (layer-within r l).1) w)
+    layer-within (suc r) l = (
+      λ e. to (λ l. (layer-within r l).0) ((in-grow (layer b s g r) l).0 e),
+      λ w. from (λ l. (layer-within r l).1) w,
+    )
       where
         to : ((l : ℕ) → In l (layer b s g r) → Within (instance_of b) (cell s) r g l) →
             (l < seats b) × (In l (layer b s g r) ⊎ ((k : ℕ) × (In k (layer b s g r) × (can_take b s k l ≡ true)))) →

@@ -270,7 +270,7 @@ module _ (m : Memory.Book) (caps : Grid) (t : Bool) (sheet : Grid) where
       → at + 2 * k
       ≡ contents_end (length (parts_of (book_in m caps) (sheet_in m t sheet)))
       + 2 * (seats (book_in m caps) + windows (book_in m caps) + length (flat (book_in m caps).caps)
-          + length_if (flat_if (sheet_in m t sheet)))
+      + length_if (flat_if (sheet_in m t sheet)))
   unfolding parts_with book_in
   first-starts e q =
       let c = parts-count m caps t sheet in

@@ -24,9 +24,9 @@ returns-in-None c b s told shows =
 pub returns-in-Improving : goal.returns-in-Improving
 returns-in-Improving c b s told shows =
     improvable-marked b s _ c.find_path-path.ensures.writable (c.find_path-path.ensures.answers _ _ told shows) c.in-Improving.is _ _
-        c.write_moves.ensures
+    c.write_moves.ensures
 
 pub returns-in-WronglyTied : goal.returns-in-WronglyTied
 returns-in-WronglyTied c b s told shows =
     tied-marked b s _ c.find_path-path.ensures.writable (c.find_path-path.ensures.answers _ _ told shows) c.in-WronglyTied.is _ _
-        c.write_moves-in-WronglyTied.ensures
+    c.write_moves-in-WronglyTied.ensures

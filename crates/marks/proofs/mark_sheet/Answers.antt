@@ -31,11 +31,11 @@ wasted-requires c = range-in _ _ c.requires.markable.fit
 pub overflow_add-result : goal.overflow_add-result
 overflow_add-result c =
     let small : (c.in-At.window < 24) × (c.in-At.seat < 32) =
-        wasted-small _ _ _ c.requires.markable _ _ (tells _ _ c.wasted.ensures c.in-At.is) in
+    wasted-small _ _ _ c.requires.markable _ _ (tells _ _ c.wasted.ensures c.in-At.is) in
     omega (arith, small)
 
 pub overflow_add-result-in-At : goal.overflow_add-result-in-At
 overflow_add-result-in-At c =
     let small : (c.in-At.window < 24) × (c.in-At.seat < 32) =
-        wasted-small _ _ _ c.requires.markable _ _ (tells _ _ c.wasted.ensures c.in-At.is) in
+    wasted-small _ _ _ c.requires.markable _ _ (tells _ _ c.wasted.ensures c.in-At.is) in
     omega (arith, small)

@@ -9,7 +9,7 @@ abbrev pub invariant-loop-r : goal.invariant-loop-r
 invariant-loop-r l =
     (length l.moves ≡ 31)
     × ((l.r ≤ l.count) × ((l.giver < 32)
-        × (Fewest l.sets l.giver l.r × Walk l.graph l.sets l.giver l.r (drop l.r (take l.count l.moves)) l.donor)))
+    × (Fewest l.sets l.giver l.r × Walk l.graph l.sets l.giver l.r (drop l.r (take l.count l.moves)) l.donor)))
 
 abbrev pub decreases-loop-r : goal.decreases-loop-r
 decreases-loop-r l = l.r

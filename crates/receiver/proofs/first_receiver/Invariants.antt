@@ -9,7 +9,7 @@ use Rattle.receiver.proofs.first_receiver.Given as goal
 abbrev pub invariant-window : goal.invariant-window
 invariant-window l =
     (l.found ≡ Nobody) × Looking (record { rooms = l.rooms; holders = l.holders }) l.g l.wanted l.k l.initial.seen l.initial.front l.seen
-        l.front l.windows l.left
+    l.front l.windows l.left
 
 abbrev pub decreases-window : goal.decreases-window
 decreases-window l = size_of l.left

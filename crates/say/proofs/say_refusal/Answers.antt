@@ -10,4 +10,4 @@ returns-in_err-say_text-2 g c = some_more _ _ _ (some_more _ _ _ c.say_text.ensu
 pub returns : goal.returns
 returns g c =
     some_more _ _ _ (some_more _ _ _ (some_more _ _ _ c.say_text.ensures.kept c.say_number.ensures) c.say_text-2.ensures.kept)
-        c.say_number-2.ensures
+    c.say_number-2.ensures

@@ -9,7 +9,7 @@ use Rattle.topmost.proofs.all_blocked.Given as goal
 abbrev pub invariant-loop-i : goal.invariant-loop-i
 invariant-loop-i l =
     (l.i ≤ l.initial.i) × ((t : Terms) → t.seats ≡ l.initial.i → t.windows ≡ l.windows →
-        Swept (instance_in t l.caps) (cell l.grid) l.i l.sets)
+    Swept (instance_in t l.caps) (cell l.grid) l.i l.sets)
 
 abbrev pub decreases-loop-i : goal.decreases-loop-i
 decreases-loop-i l = l.i

@@ -14,7 +14,7 @@ returns-in-At c =
     let placed = c.placed-placed in
     let found = at-line c.seat_below.ensures c.in-At.is in
     let here =
-        search-hit c.loop-window.invariant c.loop-window-test.true (ap₂ ◌&&◌ (lt-ltb _ _ c.if-placed-window.true) (ap is_some found)) in
+    search-hit c.loop-window.invariant c.loop-window-test.true (ap₂ ◌&&◌ (lt-ltb _ _ c.if-placed-window.true) (ap is_some found)) in
     wasted-at _ _ _ placed.result placed.ensures _ _ here c.loop-window-test.true found
 
 pub loop-window-preserved : goal.loop-window-preserved

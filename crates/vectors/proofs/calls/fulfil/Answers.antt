@@ -14,4 +14,4 @@ returns-in_err-say_each-4 g c =
 pub returns : goal.returns
 returns g c =
     some_more _ _ _ (some_more _ _ _ (some_more _ _ _ (some_more _ _ _ c.say_each.ensures c.say_each-2.ensures) c.say_each-3.ensures)
-        c.say_each-4.ensures) c.say_buffer.ensures
+    c.say_each-4.ensures) c.say_buffer.ensures

@@ -10,4 +10,4 @@ returns-in_err-say_named-3 g c = some_more _ _ _ (some_more _ _ _ c.say_named.en
 pub returns : goal.returns
 returns g c =
     some_more _ _ _ (some_more _ _ _ (some_more _ _ _ c.say_named.ensures c.say_named-2.ensures) c.say_named-3.ensures)
-        c.say_named-4.ensures
+    c.say_named-4.ensures
