@@ -1,7 +1,7 @@
 -- Where the sheet body of a file lies, and that it lies within it. Assumes nothing.
 use mathlib.Core.Path.{◌≡◌, refl, ap, ◌∙◌}
 use mathlib.Core.List.{List}
-use mathlib.Core.Option.{none, some}
+use Rattle.std.specs.Prelude.{None, Some}
 use Prim.Native.Nat.{ℕ, ◌+◌, ◌-◌, ◌≤◌}
 use native.Mathlib.Omega.{arith}
 use lib.ListN.{length, take, drop}
@@ -13,14 +13,14 @@ use Rattle.dayfile.proofs.Bodies.{sheet-inside}
 use Rattle.choice.specs.declared.Span.{Span}
 use Rattle.choice.specs.Numbers.{span_of}
 
-pub span-at : (f : List ℕ) {e at n : ℕ} → entry_of f 4 ≡ some e → at ≡ start f e → n ≡ size f e →
+pub span-at : (f : List ℕ) {e at n : ℕ} → entry_of f 4 ≡ Some e → at ≡ start f e → n ≡ size f e →
     ◌≡◌ {A = Span} (record { start = at; length = n }) (span_of f)
 span-at f entry p q = rw (p, q, entry) refl
 
-pub no_span : (f : List ℕ) → entry_of f 4 ≡ none → ◌≡◌ {A = Span} (record { start = 0; length = 0 }) (span_of f)
+pub no_span : (f : List ℕ) → entry_of f 4 ≡ None → ◌≡◌ {A = Span} (record { start = 0; length = 0 }) (span_of f)
 no_span f entry = rw entry refl
 
-pub span-inside : (f : List ℕ) (s : Span) → first_of (sheet_lines f) ≡ none → s ≡ span_of f → s.start + s.length ≤ length f
+pub span-inside : (f : List ℕ) (s : Span) → first_of (sheet_lines f) ≡ None → s ≡ span_of f → s.start + s.length ≤ length f
 unfolding sheet_lines
 span-inside f s passed e = rw e (sheet-inside f (sound f (none-parts (read_lines f) (marker_lines f) passed).0))
 

@@ -3,7 +3,7 @@ use mathlib.Core.Path.{◌≡◌, refl, sym, ap, ap₂, ◌∙◌}
 use mathlib.Core.Bool.{Bool, true}
 use mathlib.Core.List.{List}
 use mathlib.Core.Logic.{◌↔◌}
-use mathlib.Core.Option.{Option, none, some}
+use Rattle.std.specs.Prelude.{Option, None, Some}
 use Prim.Native.Nat.{ℕ}
 use native.Mathlib.Omega.{arith}
 use Rattle.fairness.specs.Leximin.{NoHigher, Higher}
@@ -59,7 +59,7 @@ module _ (d e : Day) where
 
 module _ (f g : List ℕ) where
   -- a line of the first file's
-  pub first-refused : (number at : ℕ) → first_of (sheet_lines f) ≡ some (refuse number at) → Chooses f g (Refused 1 number at)
+  pub first-refused : (number at : ℕ) → first_of (sheet_lines f) ≡ Some (refuse number at) → Chooses f g (Refused 1 number at)
   unfolding better_lines
   first-refused number at e =
       record {
@@ -67,9 +67,9 @@ module _ (f g : List ℕ) where
         whose = rw e refl;
       }
 
-  module _ (passed : first_of (sheet_lines f) ≡ none) where
+  module _ (passed : first_of (sheet_lines f) ≡ None) where
     -- a line of the second's
-    pub second-refused : (number at : ℕ) → first_of (sheet_lines g) ≡ some (refuse number at) → Chooses f g (Refused 2 number at)
+    pub second-refused : (number at : ℕ) → first_of (sheet_lines g) ≡ Some (refuse number at) → Chooses f g (Refused 2 number at)
     unfolding better_lines
     second-refused number at e =
         record {
@@ -78,14 +78,14 @@ module _ (f g : List ℕ) where
           whose = rw (passed, e) refl;
         }
 
-    module _ (passed' : first_of (sheet_lines g) ≡ none) where
+    module _ (passed' : first_of (sheet_lines g) ≡ None) where
       rest : first_of (better_lines f g) ≡ first_of (pair_lines f g)
       unfolding better_lines
       rest = on-after (sheet_lines f) _ passed ∙ on-after (sheet_lines g) (pair_lines f g) passed'
 
-      one-book : same_book (book_of f) (book_of g) ≡ true → first_of (pair_lines f g) ≡ none
+      one-book : same_book (book_of f) (book_of g) ≡ true → first_of (pair_lines f g) ≡ None
       unfolding pair_lines line17
-      one-book e = ap (λ (o : Option ℕ). or_refuse 17 o none) (sym (keeps 0 refl e))
+      one-book e = ap (λ (o : Option ℕ). or_refuse 17 o None) (sym (keeps 0 refl e))
 
       -- neither: line 17, or the list that is higher
       pub compared : (c : Choice) → Compared (same_book (book_of f) (book_of g)) (list_of f) (list_of g) c → Chooses f g c
@@ -94,7 +94,7 @@ module _ (f g : List ℕ) where
           rw (h.1.0, h.1.1.0, h.1.1.1)
           record {
             defined = defined-refusal (refuse 17 0)
-                (rest ∙ ap (λ (o : Option ℕ). or_refuse 17 o none) (sym (fails 0 refl h.0))) refl refl;
+                (rest ∙ ap (λ (o : Option ℕ). or_refuse 17 o None) (sym (fails 0 refl h.0))) refl refl;
             whose = rw (passed, passed') refl;
           }
       compared First h =
@@ -126,7 +126,7 @@ module _ (f g : List ℕ) where
 module _ (f g : List ℕ) where
   -- one of the two was chosen, so no line of either file holds
   pub lawful_both : (side : Side) (c : Choice) → Chooses f g c → side_of c ≡ answer side →
-      (first_of (sheet_lines f) ≡ none) × (first_of (sheet_lines g) ≡ none)
+      (first_of (sheet_lines f) ≡ None) × (first_of (sheet_lines g) ≡ None)
   unfolding better_lines
   lawful_both side c h e =
       let all = none-parts (sheet_lines f) _ (answer-none h.defined side e).0 in

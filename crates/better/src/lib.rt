@@ -2,7 +2,7 @@
 #![tactic(auto)]
 
 ghost use Rattle.std.specs.Prelude.{◌≡◌};
-ghost use Rattle.std.proofs.Math.Option.{none};
+ghost use Rattle.std.specs.Prelude.{None};
 ghost use Rattle.model.specs.Fair.{profile_of};
 ghost use Rattle.sheet.specs.Sheets.{grid_of};
 ghost use Rattle.dayfile.specs.Bounds.{Fit};
@@ -99,7 +99,7 @@ pub fn body_span(choice: Choice, first: &[u8], second: &[u8]) -> Span
 
 // The sheet body of a file that holds a lawful sheet.
 fn sheet_body(file: &[u8]) -> &[u8]
-    requires { first_of (sheet_lines file.now) ≡ none }
+    requires { first_of (sheet_lines file.now) ≡ None }
     ensures { result.now ≡ sheet_body file.now }
 {
     let span = sheet_span(file);

@@ -2,7 +2,7 @@
 use mathlib.Core.Path.{◌≡◌, refl, ◌∙◌}
 use mathlib.Core.Bool.{true, false}
 use mathlib.Core.List.{List}
-use mathlib.Core.Option.{none, some}
+use Rattle.std.specs.Prelude.{None, Some}
 use Prim.Native.Nat.{ℕ, ◌+◌, ◌*◌, ◌≤◌, ◌<◌}
 use native.Mathlib.Nat.{lt_trans}
 use native.Mathlib.Omega.{arith}
@@ -25,12 +25,12 @@ not-below {a} {b} {x} {y} p q l = le-ltb x y (omega arith)
 -- ---- line 14
 
 pub above_as : (f : List ℕ) {e at most n m : ℕ} →
-    entry_of f 4 ≡ some e → at ≡ start f e → most ≡ start f 2 → n ≡ seats_in f → m ≡ windows_in f →
+    entry_of f 4 ≡ Some e → at ≡ start f e → most ≡ start f 2 → n ≡ seats_in f → m ≡ windows_in f →
     first_above f at most (n * m) ≡ line14 f
 unfolding line14 first_above
 above_as f h p q r s = rw (h, p, q, r, s) refl
 
-pub none_above : (f : List ℕ) → entry_of f 4 ≡ none → none ≡ line14 f
+pub none_above : (f : List ℕ) → entry_of f 4 ≡ None → None ≡ line14 f
 unfolding line14
 none_above f h = rw h refl
 
@@ -56,10 +56,10 @@ placed-is f e j p q r = rw (p, q, r) refl
 pub supply-at : (f : List ℕ) (j : ℕ) {at r : ℕ} → at ≡ start f 1 → r ≡ field f (at + 2 * j) → r ≡ field f (cell_at f 1 j)
 supply-at f j p e = e ∙ rw p refl
 
-pub over-as : (f : List ℕ) {e : ℕ} → entry_of f 4 ≡ some e → first_over f e ≡ line15 f
+pub over-as : (f : List ℕ) {e : ℕ} → entry_of f 4 ≡ Some e → first_over f e ≡ line15 f
 unfolding line15 first_over
 over-as f h = rw h refl
 
-pub none_over : (f : List ℕ) → entry_of f 4 ≡ none → none ≡ line15 f
+pub none_over : (f : List ℕ) → entry_of f 4 ≡ None → None ≡ line15 f
 unfolding line15
 none_over f h = rw h refl

@@ -1,6 +1,6 @@
 -- Parts of the table's lines 14 and 15, of a body at a given place.
 use Rattle.std.specs.Prelude.{List, ℕ, ◌+◌, ◌*◌, ltb}
-use Rattle.std.proofs.Math.Option.{Option}
+use Rattle.std.specs.Prelude.{Option}
 use Rattle.model.specs.Lowest.{lowest}
 use Rattle.dayfile.specs.Layout.{field, windows_in}
 use Rattle.dayfile.specs.Table.{offset, cell_at, placed_in}

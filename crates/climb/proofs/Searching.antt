@@ -67,10 +67,10 @@ module _ (graph : Graph) (i goals seats all both : ℕ)
     (meet : (k : ℕ) → bit both k ≡ min (bit all k) (bit goals k)) where
   -- the seats that are reached have no room in a goal
   pub no-goal : both ≡ 0 → (c : Cycle) → c.found ≡ false → CycleIn graph i goals c.found c
-  no-goal z c e = subst (λ (b : Bool). CycleIn graph i goals b c) (sym e) none
+  no-goal z c e = subst (λ (b : Bool). CycleIn graph i goals b c) (sym e) None
     where
-      none : CycleIn graph i goals false c
-      none l q r room goal =
+      None : CycleIn graph i goals false c
+      None l q r room goal =
           let joined = union.whole q (record { via = l; here = record { member = (reaches l).1 r; leads = room } }) in
           omega (arith, joined, goal, rw z at (meet q), bit-zero q)
 
@@ -105,14 +105,14 @@ module _ (I : Instance) (S : Sheet) (i j : ℕ) (graph : Graph) where
     module _ (proper : Proper I) (settled : Settled I S) (li : i < I.seats) (lj : j < I.windows)
         (goals : ℕ) (held : Collects I.windows (λ w. (j < w) × (0 < S i w)) goals) where
       none-topmost : ((l q : ℕ) → Reached graph i l → In q (set_at graph.rooms l) → In q goals → ⊥) → Topmost I S i j
-      none-topmost none =
+      none-topmost None =
           blocked-topmost I proper S settled _ i j li lj
           (closed-blocked I S i j (Reached graph i) li (0, refl) (reached-closed J T graph draws i) closes)
         where
           closes : (l q : ℕ) → Reached graph i l → i < l → j < q → Possible I S (closing i l q) → ⊥
           closes l q r b a p =
               let room : T l q < J.cap l q = omega (arith, p.room, later-cell I S i j l q b, later-cap I S i j l q b) in
-              none l q r ((shown.rooms_are l q).1 (p.in_taker, (p.in_window, room))) ((held q).1 (p.in_window, (a, p.has)))
+              None l q r ((shown.rooms_are l q).1 (p.in_taker, (p.in_window, room))) ((held q).1 (p.in_window, (a, p.has)))
 
       -- who has room in a window after j is a later seat
       later : (l q : ℕ) → j < q → T l q < J.cap l q → i < l
@@ -147,7 +147,7 @@ module _ (I : Instance) (S : Sheet) (i j : ℕ) (graph : Graph) where
 
         answers : (found : Bool) (c : Cycle) → CycleIn graph i goals found c → Finds I S i j found c
         answers true c (q, (goal, h)) = found-raises c q goal h
-        answers false c none = none-topmost none
+        answers false c None = none-topmost None
 
         pub finds : (c : Cycle) → CycleIn graph i goals c.found c → Finds I S i j c.found c
         finds c = answers c.found c

@@ -21,7 +21,7 @@ use masks::{full, insert, intersect, lowest, minus};
 use paths::{ExchangePath, Kind, first_meeting, no_path, path_to};
 use reach::{Graph, reached, union_over};
 use settle::play_path;
-use sheet::{Caps, Move, Sheet};
+use sheet::{Grid, Move, Sheet};
 
 // Where a cell stands.
 #[derive(Clone, Copy)]
@@ -50,7 +50,7 @@ fn held_after(row: &[u16; 24], windows: usize, window: usize) -> u32
 }
 
 // The moves that are possible among the seats after a place, where the place's own seat has room for a credit in its window, and no more.
-fn later_graph(grid: &Caps, caps: &Caps, t: Terms, place: Place) -> Graph
+fn later_graph(grid: &Grid, caps: &Grid, t: Terms, place: Place) -> Graph
     requires seats_bound { (t.seats ≤ 32) × (t.windows ≤ 24) }
     requires seat_lt_seats { (place.seat < t.seats) × (place.window < t.windows) }
     ensures { Shown (later_seats (instance_in t caps.now) place.seat place.window)
@@ -123,7 +123,7 @@ fn cycle_in(graph: Graph, giver: usize, goals: u32) -> Cycle
 }
 
 // A cycle that raises the cell at a place.
-fn find_cycle(grid: &Caps, caps: &Caps, t: Terms, place: Place) -> Cycle
+fn find_cycle(grid: &Grid, caps: &Grid, t: Terms, place: Place) -> Cycle
     requires small { Small t caps.now }
     requires settled { Settled (instance_in t caps.now) (cell grid.now) }
     requires seat_lt_seats { (place.seat < t.seats) × (place.window < t.windows) }
@@ -139,7 +139,7 @@ fn find_cycle(grid: &Caps, caps: &Caps, t: Terms, place: Place) -> Cycle
 }
 
 // The grid after the moves of a cycle, the closing move first.
-fn play_cycle(grid: Caps, cycle: Cycle) -> Caps
+fn play_cycle(grid: Grid, cycle: Cycle) -> Grid
     requires writable { Writable cycle.path }
     requires all_playable { AllPlayable (cell grid) (cycle_moves cycle) }
     ensures { Plays (cell grid) (cycle_moves cycle) (cell result) }
@@ -150,7 +150,7 @@ fn play_cycle(grid: Caps, cycle: Cycle) -> Caps
 }
 
 // Raises the cell at a place as far as it goes.
-fn raise_cell(grid: &mut Caps, caps: &Caps, t: Terms, place: Place)
+fn raise_cell(grid: &mut Grid, caps: &Grid, t: Terms, place: Place)
     requires small { Small t caps.now }
     requires seat_lt_seats { (place.seat < t.seats) × (place.window < t.windows) }
     requires climbed { Climbed (instance_in t caps.now) (cell grid.old) place.seat place.window }
@@ -166,7 +166,7 @@ fn raise_cell(grid: &mut Caps, caps: &Caps, t: Terms, place: Place)
 }
 
 // Raises the cells of a seat, window by window.
-fn raise_row(grid: &mut Caps, caps: &Caps, t: Terms, seat: usize)
+fn raise_row(grid: &mut Grid, caps: &Grid, t: Terms, seat: usize)
     requires small { Small t caps.now }
     requires seat_lt_seats { seat < t.seats }
     requires climbed { Climbed (instance_in t caps.now) (cell grid.old) seat 0 }
@@ -180,7 +180,7 @@ fn raise_row(grid: &mut Caps, caps: &Caps, t: Terms, seat: usize)
 // Makes a settled grid the standard one.
 // Never made part of its caller: so its locals take stack only while it runs.
 #[inline(never)]
-pub fn climb(grid: &mut Caps, caps: &Caps, t: Terms)
+pub fn climb(grid: &mut Grid, caps: &Grid, t: Terms)
     requires small { Small t caps.now }
     requires settled { Settled (instance_in t caps.now) (cell grid.old) }
     ensures { Standard (instance_in t caps.now) (cell grid.new) }

@@ -1,7 +1,7 @@
 -- The day that was handed in, and how large the numbers of a mark can be. Assumes nothing.
 use mathlib.Core.Path.{◌≡◌, refl}
 use mathlib.Core.List.{List}
-use mathlib.Core.Option.{Option, none, some}
+use Rattle.std.specs.Prelude.{Option, None, Some}
 use Prim.Native.Nat.{ℕ}
 use native.Mathlib.Omega.{arith}
 use lib.ListN.{length}
@@ -37,8 +37,8 @@ small f before after r m = rw (marks-says f before after r m) (go (first_of (mar
   where
     go : (o : Option Refusal) → first_of (mark_lines f (length before)) ≡ o →
         Small (results (unless o (mark_of (book_of f) (marked_sheet f))))
-    go (some q) e = tt
-    go none e =
+    go (Some q) e = tt
+    go None e =
         let read =
         (none-parts (read_lines f) (marker_lines f) (none-parts (sheet_lines f) (buffer_lines (length before) moves_room) e).0).0 in
         let fit = fits f (sound f read) in

@@ -2,7 +2,7 @@
 -- Assumes nothing.
 use mathlib.Core.Bool.{true, false}
 use mathlib.Core.List.{List, ◌∷◌}
-use mathlib.Core.Option.{Option, none, some}
+use Rattle.std.specs.Prelude.{Option, None, Some}
 use mathlib.Core.Path.{◌≡◌, refl, sym, ◌∙◌, ap, ap₂}
 use Prim.Native.Nat.{ℕ, ◌+◌, ◌*◌, ◌<◌}
 use native.Mathlib.Nat.{mul-le-mul_right}
@@ -66,19 +66,19 @@ module _ (f : List ℕ) where
   unfolding book_of
   cap-shaped = grid-fits 2
 
-  sheet-shaped : (r : Option ℕ) → SheetFit (book_of f) (and_then r (λ e. some (grid_in f e)))
-  sheet-shaped none = tt
-  sheet-shaped (some e) = grid-fits e
+  sheet-shaped : (r : Option ℕ) → SheetFit (book_of f) (and_then r (λ e. Some (grid_in f e)))
+  sheet-shaped None = tt
+  sheet-shaped (Some e) = grid-fits e
 
   pub sheet-fits : SheetFit (book_of f) (sheet_of f)
   unfolding sheet_of
   sheet-fits = sheet-shaped (entry_of f 4)
 
   first-within : (n : ℕ) → n ≡ seats_in f → (r : Option ℕ)
-      → ((e : ℕ) → r ≡ some e → FieldsWithin f (start f e) 1 1 (seats_in f))
-      → FirstFit n (and_then r (λ e. some (field f (start f e))))
-  first-within n q none h = tt
-  first-within n q (some e) h =
+      → ((e : ℕ) → r ≡ Some e → FieldsWithin f (start f e) 1 1 (seats_in f))
+      → FirstFit n (and_then r (λ e. Some (field f (start f e))))
+  first-within n q None h = tt
+  first-within n q (Some e) h =
       let x : ℕ = field f (start f e) in
       let v = ap (λ (i : ℕ). within 1 (seats_in f) (field f i)) {x = start f e} {y = start f e + 2 * 0} (omega arith)
       ∙ h e refl 0 (omega arith) in
@@ -89,10 +89,10 @@ module _ (f : List ℕ) where
   first_fits s = first-within (seats (book_of f)) (seats_are f) (entry_of f 5) s.first
 
   balances-within : (n : ℕ) → n ≡ seats_in f → (r : Option ℕ)
-      → ((e : ℕ) → r ≡ some e → FieldsWithin f (start f e) (seats_in f) 0 50000)
-      → BalancesFit n (and_then r (λ e. some (fields_at f (start f e) (seats_in f))))
-  balances-within n q none h = tt
-  balances-within n q (some e) h = (
+      → ((e : ℕ) → r ≡ Some e → FieldsWithin f (start f e) (seats_in f) 0 50000)
+      → BalancesFit n (and_then r (λ e. Some (fields_at f (start f e) (seats_in f))))
+  balances-within n q None h = tt
+  balances-within n q (Some e) h = (
     fields-length f (start f e) (seats_in f) ∙ sym q,
     λ i l. high-as 0 50000 (fields-at f (start f e) (seats_in f) i (omega arith)) (h e refl i (omega arith)),
   )
@@ -101,13 +101,13 @@ module _ (f : List ℕ) where
   unfolding book_of balances_in
   balances-fits s = balances-within (seats (book_of f)) (seats_are f) (entry_of f 6) s.balances
 
-  weights-within : (r : Option ℕ) → ((e : ℕ) → r ≡ some e → FieldsRight f (start f e) 8 1 1000 true)
-      → WeightsFit (and_then r (λ e. some (fields_at f (start f e) 8)))
-  weights-within none h = tt
-  weights-within (some e) h =
+  weights-within : (r : Option ℕ) → ((e : ℕ) → r ≡ Some e → FieldsRight f (start f e) 8 1 1000 true)
+      → WeightsFit (and_then r (λ e. Some (fields_at f (start f e) 8)))
+  weights-within None h = tt
+  weights-within (Some e) h =
       let ws : List ℕ = fields_at f (start f e) 8 in
       let long = fields-length f (start f e) 8 in
-      list-weights (some ws) (
+      list-weights (Some ws) (
         long,
         λ i l. sym (same-right f (start f e) 1 1000 true ws (ap (fields_at f (start f e)) long) i l) ∙ h e refl i (omega arith),
       )
@@ -117,9 +117,9 @@ module _ (f : List ℕ) where
   weights-fits s = weights-within (entry_of f 7) s.weights
 
   sheet-small : Bytes f → (r : Option ℕ)
-      → TwoByte (book_of f) (and_then r (λ e. some (grid_in f e)))
-  sheet-small by none = tt
-  sheet-small by (some e) = λ i j h k.
+      → TwoByte (book_of f) (and_then r (λ e. Some (grid_in f e)))
+  sheet-small by None = tt
+  sheet-small by (Some e) = λ i j h k.
       let s = seats_are f in
       let w = windows_are f in
       let c = grid-cell f (start f e) (seats_in f) (windows_in f) i j (omega arith) (omega arith) in
@@ -182,11 +182,11 @@ module _ (b : Book) (o : Option Grid) (shape : Shaped (seats b) (windows b) b.ca
     classes : FieldsWithin file (start file 0) (seats_in file) 1 8
     supplies : FieldsWithin file (start file 1) (windows_in file) 0 4095
     caps : FieldsWithin file (start file 2) (seats_in file * windows_in file) 0 4095
-    first : line18 file ≡ none
-    balances : line19 file ≡ none
-    weights : line20 file ≡ none
+    first : line18 file ≡ None
+    balances : line19 file ≡ None
+    weights : line20 file ≡ None
 
-  passed : (room : ℕ) → first_of (write_lines file room) ≡ none → Values
+  passed : (room : ℕ) → first_of (write_lines file room) ≡ None → Values
   unfolding write_lines value_lines option_lines line7 line8 line10 line11 line12
   passed room e =
       let n = none-holds (write_lines file room) e in
@@ -202,7 +202,7 @@ module _ (b : Book) (o : Option Grid) (shape : Shaped (seats b) (windows b) b.ca
       }
 
   -- a first seat that line 18 lets pass
-  seat-fits : line18 file ≡ none → FirstFit (seats b) b.first
+  seat-fits : line18 file ≡ None → FirstFit (seats b) b.first
   unfolding line18 file_of parts_of
   seat-fits e =
       list-seat (seats b) b.first
@@ -210,7 +210,7 @@ module _ (b : Book) (o : Option Grid) (shape : Shaped (seats b) (windows b) b.ca
       (ap (λ (n : ℕ). and_then (entry_of file 5) (wrong_fields file 1 1 n false)) (sym (written-seats b o)) ∙ e))
 
   -- balances that line 19 lets pass
-  carried-fit : line19 file ≡ none → BalancesFit (seats b) b.balances
+  carried-fit : line19 file ≡ None → BalancesFit (seats b) b.balances
   unfolding line19 file_of parts_of
   carried-fit e =
       list-balances (seats b) b.balances
@@ -218,11 +218,11 @@ module _ (b : Book) (o : Option Grid) (shape : Shaped (seats b) (windows b) b.ca
       (ap (λ (n : ℕ). and_then (entry_of file 6) (wrong_fields file n 0 50000 false)) (sym (written-seats b o)) ∙ e))
 
   -- weights that line 20 lets pass
-  own-fit : line20 file ≡ none → WeightsFit b.weights
+  own-fit : line20 file ≡ None → WeightsFit b.weights
   unfolding line20 file_of parts_of
   own-fit e = list-weights b.weights (none-fits ps _ 8 1 1000 true (entry_of file 7) b.weights (weights-at b o) e)
 
-  file-fits : (room : ℕ) → first_of (write_lines file room) ≡ none → Fit b
+  file-fits : (room : ℕ) → first_of (write_lines file room) ≡ None → Fit b
   unfolding file_of parts_of
   file-fits room free =
       let v = passed room free in
@@ -253,6 +253,6 @@ module _ (b : Book) (o : Option Grid) (shape : Shaped (seats b) (windows b) b.ca
         weights_fit = own-fit v.weights;
       }
 
-  pub taken-fits : (room : ℕ) → first_of (write_lines (file_of b o) room) ≡ none → Fit b
+  pub taken-fits : (room : ℕ) → first_of (write_lines (file_of b o) room) ≡ None → Fit b
   unfolding file_of parts_of
   taken-fits = file-fits

@@ -1,7 +1,7 @@
 -- The bodies of a file that no line turns away lie within it. Assumes nothing.
 use mathlib.Core.Path.{◌≡◌, refl, ap, ap₂, ◌∙◌}
 use mathlib.Core.List.{List, [], ◌∷◌}
-use mathlib.Core.Option.{Option, none, some}
+use Rattle.std.specs.Prelude.{Option, None, Some}
 use Prim.Native.Nat.{ℕ, zero, suc, ◌+◌, ◌-◌, ◌*◌, ◌≤◌, ◌<◌, zero-le}
 use native.Mathlib.Omega.{arith}
 use lib.Dec.{eqb}
@@ -30,9 +30,9 @@ module _ (f : List ℕ) (s : Sound f) where
   sheet-inside = go (entry_of f 4) refl
     where
       go : (o : Option ℕ) → entry_of f 4 ≡ o →
-          value_or (and_then o (λ e. some (start f e))) 0 + value_or (and_then o (λ e. some (size f e))) 0 ≤ length f
-      go none q = zero-le
-      go (some e) q =
+          value_or (and_then o (λ e. Some (start f e))) 0 + value_or (and_then o (λ e. Some (size f e))) 0 ≤ length f
+      go None q = zero-le
+      go (Some e) q =
           let b = (lowest-some (count f) (λ j. eqb (kind f j) 4) e q).below in
           body-inside e (count f - suc e) (omega arith)
 
@@ -51,7 +51,7 @@ part_field f s z at l =
     ∙ ap (λ (k : ℕ). get_or f k 0) {x = s + (at + 1)} {y = s + at + 1} (omega arith))
 
 -- the sheet body by itself is the grid of the sheet
-module _ (f : List ℕ) (s : Sound f) (e : ℕ) (entry : entry_of f 4 ≡ some e) where
+module _ (f : List ℕ) (s : Sound f) (e : ℕ) (entry : entry_of f 4 ≡ Some e) where
   pub sheet-grid : grid_at (sheet_body f) 0 (seats_in f) (windows_in f) ≡ marked_sheet f
   unfolding grid_at fields_at sheet_body sheet_of entry_of
   sheet-grid =

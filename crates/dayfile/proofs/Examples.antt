@@ -1,7 +1,7 @@
 -- K11 of paper 01 to the byte, and with paper 02's kinds 5, 6 and 7, computed from the definitions.
 -- Assumes nothing.
 use mathlib.Core.List.{List, [], ◌∷◌, ◌++◌}
-use mathlib.Core.Option.{Option, none, some}
+use Rattle.std.specs.Prelude.{Option, None, Some}
 use mathlib.Core.Path.{◌≡◌, refl}
 use Prim.Native.Nat.{ℕ}
 use lib.ListN.{take}
@@ -18,11 +18,11 @@ use Rattle.dayfile.specs.Outcome.{turned_away, answer, read_file}
 
 -- the K10 book: supply 3; cap 2
 abbrev book : Book
-book = record { classes = 1 ∷ []; supplies = 3 ∷ []; caps = (2 ∷ []) ∷ []; first = none; balances = none; weights = none }
+book = record { classes = 1 ∷ []; supplies = 3 ∷ []; caps = (2 ∷ []) ∷ []; first = None; balances = None; weights = None }
 
 -- its planned sheet
 abbrev sheet : Option Grid
-sheet = some ((2 ∷ []) ∷ [])
+sheet = Some ((2 ∷ []) ∷ [])
 
 -- its file: 26 bytes
 abbrev k11 : List ℕ
@@ -45,7 +45,7 @@ planned =
 
 -- the book with seat 1 named as the first, and with another number there
 abbrev first_is : ℕ → Book
-first_is k = with_first (some k) book
+first_is k = with_first (Some k) book
 
 -- a file of the book with a further kind of one field behind kind 3, whose bytes are given: 34 bytes
 abbrev further : (kind low high : ℕ) → List ℕ
@@ -73,13 +73,13 @@ named_planned =
     ∷ 0x01 ∷ 0x00 ∷ 0x03 ∷ 0x00 ∷ 0x02 ∷ 0x00 ∷ 0x02 ∷ 0x00 ∷ 0x01 ∷ 0x00 ∷ []
 
 -- what is written of the book, without a sheet and with it
-pub k11-written : (file_of book none ≡ k11) × (file_of book sheet ≡ planned)
+pub k11-written : (file_of book None ≡ k11) × (file_of book sheet ≡ planned)
 unfolding file_of parts_of opt_parts opt_part flat assemble fields_of contents bodies bytes_of
 k11-written = (refl, refl)
 
 -- what the two files say; K11 less its last byte is refusal 6 at 25, and so is one byte more, at 27
 pub k11-read :
-    (read_file k11 ≡ answer (book, none))
+    (read_file k11 ≡ answer (book, None))
     × (read_file planned ≡ answer (book, sheet))
     × (read_file (take 25 k11) ≡ turned_away (refuse 6 25))
     × (read_file (k11 ++ (0x00 ∷ [])) ≡ turned_away (refuse 6 27))
@@ -89,13 +89,13 @@ unfolding read_file read_lines contents_lines length_lines value_lines option_li
     first_in balances_in weights_in book_of sheet_of fields_at grid_at table
 k11-read = (refl, refl, refl, refl)
 
-pub named-written : (file_of (first_is 1) none ≡ named 1) × (file_of (first_is 1) sheet ≡ named_planned)
+pub named-written : (file_of (first_is 1) None ≡ named 1) × (file_of (first_is 1) sheet ≡ named_planned)
 unfolding file_of parts_of opt_parts opt_part flat assemble fields_of contents bodies bytes_of
 named-written = (refl, refl)
 
 -- the book has no seat 0 and no seat 2: refusal 18 at the value
 pub named-read :
-    (read_file (named 1) ≡ answer (first_is 1, none))
+    (read_file (named 1) ≡ answer (first_is 1, None))
     × (read_file named_planned ≡ answer (first_is 1, sheet))
     × (read_file (named 0) ≡ turned_away (refuse 18 32))
     × (read_file (named 2) ≡ turned_away (refuse 18 32))
@@ -107,7 +107,7 @@ named-read = (refl, refl, refl, refl)
 
 -- the book with a balance of 50,000, and with a first seat or none
 abbrev carried : Option ℕ → Book
-carried k = with_balances (some (50000 ∷ [])) (with_first k book)
+carried k = with_balances (Some (50000 ∷ [])) (with_first k book)
 
 -- planned: kinds 1 to 6, 50 bytes
 abbrev carried_planned : List ℕ
@@ -121,14 +121,14 @@ carried_planned =
     ∷ 0x06 ∷ 0x00 ∷ 0x30 ∷ 0x00 ∷ 0x02 ∷ 0x00
     ∷ 0x01 ∷ 0x00 ∷ 0x03 ∷ 0x00 ∷ 0x02 ∷ 0x00 ∷ 0x02 ∷ 0x00 ∷ 0x01 ∷ 0x00 ∷ 0x50 ∷ 0xC3 ∷ []
 
-pub carried-written : (file_of (carried none) none ≡ further 6 0x50 0xC3) × (file_of (carried (some 1)) sheet ≡ carried_planned)
+pub carried-written : (file_of (carried None) None ≡ further 6 0x50 0xC3) × (file_of (carried (Some 1)) sheet ≡ carried_planned)
 unfolding file_of parts_of opt_parts opt_part flat assemble fields_of contents bodies bytes_of
 carried-written = (refl, refl)
 
 -- a balance of 50,001 is refusal 19 at the value; kind 8 is unknown
 pub carried-read :
-    (read_file (further 6 0x50 0xC3) ≡ answer (carried none, none))
-    × (read_file carried_planned ≡ answer (carried (some 1), sheet))
+    (read_file (further 6 0x50 0xC3) ≡ answer (carried None, None))
+    × (read_file carried_planned ≡ answer (carried (Some 1), sheet))
     × (read_file (further 6 0x51 0xC3) ≡ turned_away (refuse 19 32))
     × (read_file (further 8 0x50 0xC3) ≡ turned_away (refuse 4 20))
 unfolding read_file read_lines contents_lines length_lines value_lines option_lines
@@ -139,7 +139,7 @@ carried-read = (refl, refl, refl, refl)
 
 -- the book with weights of its own
 abbrev weighed : List ℕ → Book
-weighed ws = with_weights (some ws) book
+weighed ws = with_weights (Some ws) book
 
 -- its file with the low and the high bytes of the first weight, of the second and of the last, between which 4 to 8 stand: 48 bytes
 abbrev own : (first second last high : ℕ) → List ℕ
@@ -152,13 +152,13 @@ own first second last high =
     ∷ 0x01 ∷ 0x00 ∷ 0x03 ∷ 0x00 ∷ 0x02 ∷ 0x00
     ∷ first ∷ 0x00 ∷ second ∷ 0x00 ∷ 0x04 ∷ 0x00 ∷ 0x05 ∷ 0x00 ∷ 0x06 ∷ 0x00 ∷ 0x07 ∷ 0x00 ∷ 0x08 ∷ 0x00 ∷ last ∷ high ∷ []
 
-pub own-written : file_of (weighed (2 ∷ 3 ∷ 4 ∷ 5 ∷ 6 ∷ 7 ∷ 8 ∷ 1000 ∷ [])) none ≡ own 2 3 0xE8 0x03
+pub own-written : file_of (weighed (2 ∷ 3 ∷ 4 ∷ 5 ∷ 6 ∷ 7 ∷ 8 ∷ 1000 ∷ [])) None ≡ own 2 3 0xE8 0x03
 unfolding file_of parts_of opt_parts opt_part flat assemble fields_of contents bodies bytes_of
 own-written = refl
 
 -- a first weight of 0, a second that is not greater, and 1,001 are refusal 20, each at its value; a body of one field is so at its length
 pub own_read :
-    (read_file (own 2 3 0xE8 0x03) ≡ answer (weighed (2 ∷ 3 ∷ 4 ∷ 5 ∷ 6 ∷ 7 ∷ 8 ∷ 1000 ∷ []), none))
+    (read_file (own 2 3 0xE8 0x03) ≡ answer (weighed (2 ∷ 3 ∷ 4 ∷ 5 ∷ 6 ∷ 7 ∷ 8 ∷ 1000 ∷ []), None))
     × (read_file (own 0 3 0xE8 0x03) ≡ turned_away (refuse 20 32))
     × (read_file (own 3 3 0xE8 0x03) ≡ turned_away (refuse 20 34))
     × (read_file (own 3 2 0xE9 0x03) ≡ turned_away (refuse 20 34))
@@ -184,20 +184,20 @@ three a b c d =
 
 -- it is refused by 22 at the class of the lowest idle seat, and a buffer of no bytes does not hide that; but it is read
 pub idle-told :
-    (first_of (forecast_lines (three 4 0 0 4)) ≡ some (refuse 22 24))
-    × (first_of (forecast_lines (three 0 4 0 0)) ≡ some (refuse 22 22))
-    × (first_of (forecast_lines (three 0 0 0 1)) ≡ some (refuse 22 20))
-    × (first_of (plan_lines (three 4 0 0 0) 0) ≡ some (refuse 22 22))
+    (first_of (forecast_lines (three 4 0 0 4)) ≡ Some (refuse 22 24))
+    × (first_of (forecast_lines (three 0 4 0 0)) ≡ Some (refuse 22 22))
+    × (first_of (forecast_lines (three 0 0 0 1)) ≡ Some (refuse 22 20))
+    × (first_of (plan_lines (three 4 0 0 0) 0) ≡ Some (refuse 22 22))
     × (read_file (three 0 0 0 0) ≡ answer (
       record {
         classes = 1 ∷ 1 ∷ 1 ∷ [];
         supplies = 4 ∷ 4 ∷ [];
         caps = (0 ∷ 0 ∷ []) ∷ (0 ∷ 0 ∷ []) ∷ (0 ∷ 0 ∷ []) ∷ [];
-        first = none;
-        balances = none;
-        weights = none;
+        first = None;
+        balances = None;
+        weights = None;
       },
-      none,
+      None,
     ))
 unfolding read_file read_lines contents_lines length_lines value_lines option_lines
     line1 line2 line3 line4 line5 line6 line7 line8 line9 line10 line11 line12
@@ -218,10 +218,10 @@ last_cap =
 
 -- it has no idle seat, and K11 has none: nothing but 16 keeps K11 from being planned
 pub none-idle-told :
-    (first_of (forecast_lines last_cap) ≡ none)
-    × (first_of (forecast_lines k11) ≡ none)
-    × (first_of (plan_lines k11 33) ≡ some (refuse 16 34))
-    × (first_of (plan_lines k11 34) ≡ none)
+    (first_of (forecast_lines last_cap) ≡ None)
+    × (first_of (forecast_lines k11) ≡ None)
+    × (first_of (plan_lines k11 33) ≡ Some (refuse 16 34))
+    × (first_of (plan_lines k11 34) ≡ None)
 unfolding read_lines contents_lines length_lines value_lines option_lines
     line1 line2 line3 line4 line5 line6 line7 line8 line9 line10 line11 line12
     line18 line19 line20 wrong_fields lowest kind_right size_right grid_right wrong_field field ends entry_of

@@ -2,7 +2,7 @@
 -- Assumes nothing.
 use mathlib.Core.Bool.{Bool, true, false}
 use mathlib.Core.List.{List, []}
-use mathlib.Core.Option.{Option, none, some}
+use Rattle.std.specs.Prelude.{Option, None, Some}
 use mathlib.Core.Path.{◌≡◌, refl, sym, ◌∙◌, ap, ap₂}
 use Prim.Native.Nat.{ℕ, ◌≤◌}
 use native.Mathlib.Omega.{arith}
@@ -59,13 +59,13 @@ module _ (b : Book) (s : Option Grid) (d : Day) (fit : Fit b) (h : Holds b s d) 
 
   -- what may be missing, by its flag and its number
   held_first : (k : Option ℕ) (t : Bool) (x : ℕ) → t ≡ is_some k → x ≡ value_or k 0 → when t x ≡ k
-  held_first none t x p q = ap (λ (y : Bool). when y x) p
-  held_first (some k) t x p q = ap₂ when p q
+  held_first None t x p q = ap (λ (y : Bool). when y x) p
+  held_first (Some k) t x p q = ap₂ when p q
 
   held-list : (n N k : ℕ) → k ≡ n → n ≤ N → (o : Option (List ℕ)) (t : Bool) (xs : List ℕ) → IfThere (λ ys. length ys ≡ n) o
       → t ≡ is_some o → xs ≡ sized N (value_or o []) → when t (sized k xs) ≡ o
-  held-list n N k e l none t xs f p q = ap (λ (y : Bool). when y (sized k xs)) p
-  held-list n N k e l (some ys) t xs f p q = ap₂ when p (again n N k ys xs e q l f)
+  held-list n N k e l None t xs f p q = ap (λ (y : Bool). when y (sized k xs)) p
+  held-list n N k e l (Some ys) t xs f p q = ap₂ when p (again n N k ys xs e q l f)
 
   -- those of a day
   abbrev balances_there : Option (List ℕ)
@@ -75,12 +75,12 @@ module _ (b : Book) (s : Option Grid) (d : Day) (fit : Fit b) (h : Holds b s d) 
   weights_there = when d.book.has_weights (sized 8 d.book.weights)
 
   each_long : (n : ℕ) (o : Option (List ℕ)) → BalancesFit n o → IfThere (λ ys. length ys ≡ n) o
-  each_long n none f = tt
-  each_long n (some ys) f = f.0
+  each_long n None f = tt
+  each_long n (Some ys) f = f.0
 
   eight-long : (o : Option (List ℕ)) → WeightsFit o → IfThere (λ ys. length ys ≡ 8) o
-  eight-long none f = tt
-  eight-long (some ys) f = f.0
+  eight-long None f = tt
+  eight-long (Some ys) f = f.0
 
   pub held-book : day_book d ≡ b
   unfolding book_in
@@ -103,7 +103,7 @@ module _ (b : Book) (s : Option Grid) (d : Day) (fit : Fit b) (h : Holds b s d) 
   held-sheet p = go s p h.has_sheet_is h.sheet_is
     where
       go : (o : Option Grid) → SheetFit b o → d.has_sheet ≡ is_some o → grid_of d.sheet ≡ held (value_or o []) → day_sheet d ≡ o
-      go none f t g = ap (λ (x : Bool). sheet_in d.book x (grid_of d.sheet)) t
-      go (some o) f t g =
+      go None f t g = ap (λ (x : Bool). sheet_in d.book x (grid_of d.sheet)) t
+      go (Some o) f t g =
           ap (λ (x : Bool). sheet_in d.book x (grid_of d.sheet)) t
-          ∙ ap some (ap (sized_grid d.book.seats d.book.windows) g ∙ grid-again o f)
+          ∙ ap Some (ap (sized_grid d.book.seats d.book.windows) g ∙ grid-again o f)

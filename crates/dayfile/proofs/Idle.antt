@@ -3,7 +3,7 @@ use mathlib.Core.Path.{◌≡◌, refl, ap, ◌∙◌}
 use mathlib.Core.Bool.{false}
 use mathlib.Core.List.{List}
 use mathlib.Core.Logic.{◌↔◌}
-use mathlib.Core.Option.{none, some}
+use Rattle.std.specs.Prelude.{None, Some}
 use Prim.Native.Nat.{ℕ, ◌<◌}
 use Rattle.model.specs.Book.{Idle, NoneIdle, seats, is_idle}
 use Rattle.model.proofs.Tests.{not-true}
@@ -18,7 +18,7 @@ use Rattle.dayfile.proofs.Search.{offset-none}
 
 module _ (f : List ℕ) where
   -- it holds nowhere exactly where no seat is idle
-  pub none-22 : (line22 f ≡ none) ↔ NoneIdle (book_of f)
+  pub none-22 : (line22 f ≡ None) ↔ NoneIdle (book_of f)
   unfolding line22
   none-22 = (
     λ e. (none-idle-test (book_of f)).0 (offset-none (cell_at f 0) _ e),
@@ -27,7 +27,7 @@ module _ (f : List ℕ) where
 
   -- else at the lowest that is
   pub lowest-22 : (i : ℕ) → i < seats (book_of f) → Idle (book_of f) i → ((k : ℕ) → k < i → Idle (book_of f) k → ⊥) →
-      line22 f ≡ some (cell_at f 0 i)
+      line22 f ≡ Some (cell_at f 0 i)
   unfolding line22
   lowest-22 i li idle before =
       ap (offset (cell_at f 0))
@@ -42,17 +42,17 @@ module _ (f : List ℕ) where
 
 module _ (f : List ℕ) where
   -- where none holds, none of the reader's does
-  pub read-free : first_of (forecast_lines f) ≡ none → first_of (read_lines f) ≡ none
+  pub read-free : first_of (forecast_lines f) ≡ None → first_of (read_lines f) ≡ None
   read-free e = (none-parts (read_lines f) (idle_lines f) e).0
 
   -- of an accepted file none holds where no seat is idle
-  pub forecast-free : first_of (read_lines f) ≡ none → NoneIdle (book_of f) → first_of (forecast_lines f) ≡ none
+  pub forecast-free : first_of (read_lines f) ≡ None → NoneIdle (book_of f) → first_of (forecast_lines f) ≡ None
   unfolding idle_lines
   forecast-free e h = on-after (read_lines f) (idle_lines f) e ∙ rw ((none-22 f).1 h) refl
 
   -- and else 22 does
-  pub forecast-idle : first_of (read_lines f) ≡ none → (i : ℕ) → i < seats (book_of f) → Idle (book_of f) i →
-      ((k : ℕ) → k < i → Idle (book_of f) k → ⊥) → first_of (forecast_lines f) ≡ some (refuse 22 (cell_at f 0 i))
+  pub forecast-idle : first_of (read_lines f) ≡ None → (i : ℕ) → i < seats (book_of f) → Idle (book_of f) i →
+      ((k : ℕ) → k < i → Idle (book_of f) k → ⊥) → first_of (forecast_lines f) ≡ Some (refuse 22 (cell_at f 0 i))
   unfolding idle_lines
   forecast-idle e i li idle before = on-after (read_lines f) (idle_lines f) e ∙ rw (lowest-22 f i li idle before) refl
 

@@ -1,7 +1,7 @@
 -- How long a file is, and that it is made of bytes.
 -- Assumes nothing.
 use mathlib.Core.List.{List, [], ◌∷◌, ◌++◌}
-use mathlib.Core.Option.{Option, none, some}
+use Rattle.std.specs.Prelude.{Option, None, Some}
 use mathlib.Core.Path.{◌≡◌, refl, sym, ◌∙◌, ap}
 use Prim.Native.Nat.{ℕ, zero, suc, ◌+◌, ◌*◌, ◌≤◌, ◌<◌}
 use native.Mathlib.Nat.{mul-le-mul_left, mul-le-mul_right}
@@ -26,13 +26,13 @@ use Rattle.dayfile.proofs.Optional.{Each, IfThere, each-opt, entry_if, length_if
 
 pub count-opt : (k : ℕ) (o : Option (List ℕ)) (qs : List Part) → length (opt_part k o ++ qs) ≡ entry_if o + length qs
 unfolding opt_part
-count-opt k none qs = omega arith
-count-opt k (some xs) qs = omega arith
+count-opt k None qs = omega arith
+count-opt k (Some xs) qs = omega arith
 
 pub bodies-opt : (k : ℕ) (o : Option (List ℕ)) (qs : List Part) → length (bodies (opt_part k o ++ qs)) ≡ length_if o + length (bodies qs)
 unfolding opt_part bodies
-bodies-opt k none qs = omega arith
-bodies-opt k (some xs) qs = length-append xs (bodies qs)
+bodies-opt k None qs = omega arith
+bodies-opt k (Some xs) qs = length-append xs (bodies qs)
 
 pub file-length : (b : Book) (o : Option Grid)
     → length (file_of b o)
@@ -60,27 +60,27 @@ file-length b o =
     let e = file-size (length all) all refl in omega arith
 
 sheet-length : (b : Book) (o : Option Grid) → SheetFit b o → length_if (flat_if o) ≡ entry_if (flat_if o) * (seats b * windows b)
-sheet-length b none s = omega arith
-sheet-length b (some g) s = flat-length (seats b) (windows b) g s ∙ omega arith
+sheet-length b None s = omega arith
+sheet-length b (Some g) s = flat-length (seats b) (windows b) g s ∙ omega arith
 
 few-entries : (o : Option Grid) → entry_if (flat_if o) ≤ 1
-few-entries none = omega arith
-few-entries (some g) = omega arith
+few-entries None = omega arith
+few-entries (Some g) = omega arith
 
 -- a first seat is one entry of one field, or none of none
 one-most : (k : Option ℕ) → (entry_if (one_if k) ≤ 1) × (length_if (one_if k) ≤ 1)
-one-most none = (omega arith, omega arith)
-one-most (some x) = (omega arith, omega arith)
+one-most None = (omega arith, omega arith)
+one-most (Some x) = (omega arith, omega arith)
 
 -- balances are one entry of a field for each seat, or none of none
 each-most : (n : ℕ) (o : Option (List ℕ)) → BalancesFit n o → (entry_if o ≤ 1) × (length_if o ≤ n)
-each-most n none h = (omega arith, omega arith)
-each-most n (some xs) h = (omega arith, omega (arith, h.0))
+each-most n None h = (omega arith, omega arith)
+each-most n (Some xs) h = (omega arith, omega (arith, h.0))
 
 -- weights are one entry of eight fields, or none of none
 eight-most : (o : Option (List ℕ)) → WeightsFit o → (entry_if o ≤ 1) × (length_if o ≤ 8)
-eight-most none h = (omega arith, omega arith)
-eight-most (some ws) h = (omega arith, omega (arith, h.0))
+eight-most None h = (omega arith, omega arith)
+eight-most (Some ws) h = (omega arith, omega (arith, h.0))
 
 few-cells : (n m : ℕ) → n ≤ 32 → m ≤ 24 → n * m ≤ 768
 few-cells n m h k = let a = mul-le-mul_left n k in let b = mul-le-mul_right 24 h in omega arith
@@ -101,13 +101,13 @@ file-short b o fit sheet =
 
 -- a sheet of whatever cells makes the file as long
 pub planned-length : (b : Book) (s : Grid) → Shaped (seats b) (windows b) b.caps → SheetOf b s
-    → length (file_of b (some s)) ≡ planned_length b
+    → length (file_of b (Some s)) ≡ planned_length b
 unfolding planned_length
 planned-length b s shape sheet =
     let n : ℕ = seats b in
     let m : ℕ = windows b in
-    let e = file-length b (some s) in
-    let f = file-length b (some b.caps) in
+    let e = file-length b (Some s) in
+    let f = file-length b (Some b.caps) in
     let c = flat-length n m b.caps shape in let d = flat-length n m s sheet in omega arith
 
 -- ---- bytes
@@ -151,25 +151,25 @@ bodies-small [] s = λ k. omega arith
 bodies-small (p ∷ ps) s = small-append p.body (bodies ps) s.0.1 (bodies-small ps s.1)
 
 sheet-small : (b : Book) (o : Option Grid) → SheetFit b o → TwoByte b o → IfThere (λ xs. SmallPart (part 4 xs)) (flat_if o)
-sheet-small b none f t = tt
-sheet-small b (some g) f t = (
+sheet-small b None f t = tt
+sheet-small b (Some g) f t = (
   omega arith,
   small-under 65535 (flat g) (omega arith)
       (flat-cell (seats b) (windows b) g f (λ x. x ≤ 65535) (λ i j h k. omega (arith, t i j h k))),
 )
 
 first_small : (n : ℕ) (k : Option ℕ) → n ≤ 32 → FirstFit n k → IfThere (λ xs. SmallPart (part 5 xs)) (one_if k)
-first_small n none l h = tt
-first_small n (some x) l h = (omega arith, small-cons x [] (omega (arith, h.1)) (λ i. omega arith))
+first_small n None l h = tt
+first_small n (Some x) l h = (omega arith, small-cons x [] (omega (arith, h.1)) (λ i. omega arith))
 
 balances-small : (n : ℕ) (o : Option (List ℕ)) → BalancesFit n o → IfThere (λ xs. SmallPart (part 6 xs)) o
-balances-small n none h = tt
-balances-small n (some xs) h =
+balances-small n None h = tt
+balances-small n (Some xs) h =
     (omega arith, small-under 50000 xs (omega arith) (λ k l. h.1 k (omega (arith, h.0))))
 
 weights-small : (o : Option (List ℕ)) → WeightsFit o → IfThere (λ ws. SmallPart (part 7 ws)) o
-weights-small none h = tt
-weights-small (some ws) h =
+weights-small None h = tt
+weights-small (Some ws) h =
     (omega arith, small-under 1000 ws (omega arith) (λ k l. (h.1 k (omega (arith, h.0))).1))
 
 module _ (b : Book) (o : Option Grid) (fit : Fit b) (sheet : SheetFit b o) (two : TwoByte b o) where
@@ -220,9 +220,9 @@ long_book =
       classes = table 32 (λ i. 1);
       supplies = table 24 (λ i. 0);
       caps = sized_grid 32 24 [];
-      first = some 1;
-      balances = some (table 32 (λ i. 0));
-      weights = some (table 8 (λ i. i + 1));
+      first = Some 1;
+      balances = Some (table 32 (λ i. 0));
+      weights = Some (table 8 (λ i. i + 1));
     }
 
 abbrev pub long_sheet : Grid
@@ -270,18 +270,18 @@ long-fits =
       );
     }
 
-pub long-sheet-fits : SheetFit long_book (some long_sheet)
+pub long-sheet-fits : SheetFit long_book (Some long_sheet)
 long-sheet-fits = long-shape
 
-pub long-two-byte : TwoByte long_book (some long_sheet)
+pub long-two-byte : TwoByte long_book (Some long_sheet)
 long-two-byte i j h k =
     let s = long-seats in let w = long-windows in omega (arith, zero-cell i j (omega arith) (omega arith))
 
-pub long-length : length (file_of long_book (some long_sheet)) ≡ longest_file
+pub long-length : length (file_of long_book (Some long_sheet)) ≡ longest_file
 long-length =
     let s = long-seats in
     let w = long-windows in
-    let e = file-length long_book (some long_sheet) in
+    let e = file-length long_book (Some long_sheet) in
     let k = table-length {A = ℕ} 32 (λ i. 0) in
     let v = table-length {A = ℕ} 8 (λ i. i + 1) in
     let c = flat-length 32 24 (sized_grid 32 24 []) (sized-shaped 32 24 []) in omega arith

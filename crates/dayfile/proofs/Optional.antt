@@ -2,7 +2,7 @@
 -- file of some parts.
 -- Assumes nothing.
 use mathlib.Core.List.{List, [], ◌∷◌, ◌++◌}
-use mathlib.Core.Option.{Option, none, some}
+use Rattle.std.specs.Prelude.{Option, None, Some}
 use mathlib.Core.Path.{◌≡◌, sym, ◌∙◌, ap, subst}
 use Prim.Native.Nat.{ℕ, zero, suc, ◌+◌, ◌≤◌, ◌<◌}
 use native.Mathlib.Nat.{not-suc-le-zero, le_of_suc-le-suc}
@@ -26,8 +26,8 @@ above-less lo k (q ∷ qs) h a = ((let x = a.0 in omega arith), a.1, a.2)
 
 pub above-opt : (k : ℕ) (o : Option (List ℕ)) (qs : List Part) → k ≤ known → Above (suc k) qs → Above k (opt_part k o ++ qs)
 unfolding opt_part
-above-opt k none qs h a = above-less k (suc k) qs (omega arith) a
-above-opt k (some xs) qs h a = (omega arith, h, a)
+above-opt k None qs h a = above-less k (suc k) qs (omega arith) a
+above-opt k (Some xs) qs h a = (omega arith, h, a)
 
 -- each kind is above the one before it
 pub above-next : (q : Part) (qs : List Part) → Above (suc q.sort) qs → (i : ℕ) → i < length qs
@@ -49,37 +49,37 @@ each-nth P (q ∷ qs) g (suc i) h = each-nth P qs g.1 i (le_of_suc-le-suc h)
 
 -- what holds of a body that may be missing
 abbrev pub IfThere : (List ℕ → Type 0) → Option (List ℕ) → Type 0
-IfThere P none = Unit {0}
-IfThere P (some xs) = P xs
+IfThere P None = Unit {0}
+IfThere P (Some xs) = P xs
 
 pub each-opt : (P : Part → Type 0) (k : ℕ) (o : Option (List ℕ)) (qs : List Part)
     → IfThere (λ xs. P (part k xs)) o → Each P qs → Each P (opt_part k o ++ qs)
 unfolding opt_part
-each-opt P k none qs h g = g
-each-opt P k (some xs) qs h g = (h, g)
+each-opt P k None qs h g = g
+each-opt P k (Some xs) qs h g = (h, g)
 
 pub few-opt : (k : ℕ) (o : Option (List ℕ)) (qs : List Part) → length (opt_part k o ++ qs) ≤ suc (length qs)
 unfolding opt_part
-few-opt k none qs = omega arith
-few-opt k (some xs) qs = omega arith
+few-opt k None qs = omega arith
+few-opt k (Some xs) qs = omega arith
 
 -- the number of entries and of fields of a part that may be missing
 abbrev pub entry_if : Option (List ℕ) → ℕ
-entry_if none = 0
-entry_if (some xs) = 1
+entry_if None = 0
+entry_if (Some xs) = 1
 
 abbrev pub length_if : Option (List ℕ) → ℕ
-length_if none = 0
-length_if (some xs) = length xs
+length_if None = 0
+length_if (Some xs) = length xs
 
 -- ---- where a kind's entry lies in the file of some parts
 
 -- an entry with the body, k fields behind the first one's start, or neither
 abbrev pub BodyAt : List Part → ℕ → Option ℕ → Option (List ℕ) → Type 0
-BodyAt ps k none none = Unit {0}
-BodyAt ps k none (some xs) = ⊥
-BodyAt ps k (some e) none = ⊥
-BodyAt ps k (some e) (some xs) = (e < length ps) × ((nth ps e).body ≡ xs) × (before ps e ≡ k)
+BodyAt ps k None None = Unit {0}
+BodyAt ps k None (Some xs) = ⊥
+BodyAt ps k (Some e) None = ⊥
+BodyAt ps k (Some e) (Some xs) = (e < length ps) × ((nth ps e).body ≡ xs) × (before ps e ≡ k)
 
 module _ (first : ℕ) (ps : List Part) (told : entries_in first ≡ length ps) (order : InOrder (assemble first ps)) where
   abbrev file : List ℕ
@@ -112,10 +112,10 @@ module _ (first : ℕ) (ps : List Part) (told : entries_in first ≡ length ps) 
       }
 
   missing : (e lo k : ℕ) (qs : List Part) → Split (assemble first ps) order e lo → Tail e k qs
-      → (e < count (assemble first ps) → kind (assemble first ps) e ≡ lo → ⊥) → Looked lo k none qs
+      → (e < count (assemble first ps) → kind (assemble first ps) e ≡ lo → ⊥) → Looked lo k None qs
   missing e lo k qs s t n =
       record {
-        body = subst (λ (r : Option ℕ). BodyAt ps k r none) (sym (miss file order e lo s n)) tt;
+        body = subst (λ (r : Option ℕ). BodyAt ps k r None) (sym (miss file order e lo s n)) tt;
         next = e;
         split = split-miss file order e lo s n;
         tail = record { long = t.long; same = t.same; ahead = omega (arith, t.ahead) };
@@ -124,7 +124,7 @@ module _ (first : ℕ) (ps : List Part) (told : entries_in first ≡ length ps) 
   pub look : (e lo k : ℕ) (o : Option (List ℕ)) (qs : List Part)
       → Split (assemble first ps) order e lo → Tail e k (opt_part lo o ++ qs) → Above (suc lo) qs → Looked lo k o qs
   unfolding opt_part
-  look e lo k (some xs) qs s t a =
+  look e lo k (Some xs) qs s t a =
       let c = count-is first ps told in
       let x = t.long in
       let l : e < length ps = omega arith in
@@ -133,15 +133,15 @@ module _ (first : ℕ) (ps : List Part) (told : entries_in first ≡ length ps) 
       let l' : e < count file = omega arith in
       record {
         body =
-            subst (λ (r : Option ℕ). BodyAt ps k r (some xs)) (sym (hit file order e lo s l' q))
+            subst (λ (r : Option ℕ). BodyAt ps k r (Some xs)) (sym (hit file order e lo s l' q))
             (l, ap (λ (p : Part). p.body) here, t.ahead);
         next = suc e;
         split = split-hit file order e lo s l' q;
         tail = rest-is e k (part lo xs) qs t;
       }
-  look e lo k none [] s t a =
+  look e lo k None [] s t a =
       let c = count-is first ps told in missing e lo k [] s t (λ l q. let x = t.long in omega arith)
-  look e lo k none (p ∷ qs) s t a =
+  look e lo k None (p ∷ qs) s t a =
       let c = count-is first ps told in
       missing e lo k (p ∷ qs) s t (λ l q.
       let y = kind_is first ps told e (omega arith) in

@@ -2,7 +2,7 @@
 use mathlib.Core.Path.{◌≡◌, refl, sym, ap, ap₂, ◌∙◌, fun_ext}
 use mathlib.Core.Bool.{Bool, true, true≢false}
 use mathlib.Core.List.{List, [], ◌∷◌}
-use mathlib.Core.Option.{none, some}
+use Rattle.std.specs.Prelude.{None, Some}
 use Prim.Native.Nat.{ℕ, ◌<◌}
 use native.Mathlib.Omega.{arith}
 use lib.Dec.{eqb}
@@ -84,7 +84,7 @@ parts_same b c h =
     ) refl
 
 -- a book without balances and one with zeros are one book
-pub zeros-one-book : (b : Book) → same_book (with_balances none b) (with_balances (some (replicate (seats b) 0)) b) ≡ true
+pub zeros-one-book : (b : Book) → same_book (with_balances None b) (with_balances (Some (replicate (seats b) 0)) b) ≡ true
 unfolding balances_of
 zeros-one-book b =
     parts_same _ _ (record {
@@ -96,7 +96,7 @@ zeros-one-book b =
     })
 
 -- and so are a book without weights of its own and one with paper 01's
-pub built-in-one-book : (b : Book) → same_book (with_weights none b) (with_weights (some class_weights) b) ≡ true
+pub built-in-one-book : (b : Book) → same_book (with_weights None b) (with_weights (Some class_weights) b) ≡ true
 unfolding balances_of
 built-in-one-book b = parts_same _ _ (record { classes = refl; supplies = refl; caps = refl; balances = refl; weights = refl })
 
@@ -165,6 +165,6 @@ parts-highest b c h xs g =
 
 -- ---- files
 
-pub one-book : (f g : List ℕ) → line17 f g ≡ none → SameParts (book_of f) (book_of g)
+pub one-book : (f g : List ℕ) → line17 f g ≡ None → SameParts (book_of f) (book_of g)
 unfolding line17
 one-book f g e = same_parts (book_of f) (book_of g) (kept (same_book (book_of f) (book_of g)) 0 e)

@@ -2,7 +2,7 @@
 -- Assumes nothing.
 use mathlib.Core.Bool.{Bool, cond}
 use mathlib.Core.List.{List, [], ◌∷◌, ◌++◌}
-use mathlib.Core.Option.{Option, none, some}
+use Rattle.std.specs.Prelude.{Option, None, Some}
 use mathlib.Core.Path.{◌≡◌, refl, sym, ◌∙◌, ap, ap₂}
 use Prim.Native.Nat.{ℕ, zero, suc, ◌+◌, ◌-◌, ◌*◌, ◌/◌, ◌<◌}
 use native.Mathlib.Decide.{dec_lt, ℕ_discrete}
@@ -34,7 +34,7 @@ module _ (f : List ℕ) (s : Sound f) where
   kind-size : (k e : ℕ) → e < count f → kind f e ≡ k → size f e / 2 ≡ body_fields f k
   kind-size k e h q = let x = s.sizes e h in let y = ap (body_fields f) q in omega arith
 
-  pub entry-size : (k e : ℕ) → entry_of f k ≡ some e → size f e / 2 ≡ body_fields f k
+  pub entry-size : (k e : ℕ) → entry_of f k ≡ Some e → size f e / 2 ≡ body_fields f k
   unfolding entry_of
   entry-size k e q =
       let g = lowest-some (count f) (λ j. eqb (kind f j) k) e q in
@@ -156,7 +156,7 @@ module _ (f : List ℕ) (s : Sound f) where
 
   -- the body of a kind, if there is an entry
   abbrev body_if : Option ℕ → Option (List ℕ)
-  body_if r = and_then r (λ e. some (body_of e))
+  body_if r = and_then r (λ e. Some (body_of e))
 
   -- the entries from e on
   abbrev pieces-from : ℕ → List Part
@@ -208,9 +208,9 @@ module _ (f : List ℕ) (s : Sound f) where
   peel-as e lo sp p q = ap₂ (λ (o : Option (List ℕ)) (r : List Part). opt_part lo o ++ r) p q ∙ sym (peel e lo sp).same
 
   -- a sheet's numbers are its body's
-  sheet-body : (r : Option ℕ) → entry_of f 4 ≡ r → flat_if (and_then r (λ e. some (grid_in f e))) ≡ body_if r
-  sheet-body none q = refl
-  sheet-body (some e) q = ap some (grid-body e (entry-size 4 e q))
+  sheet-body : (r : Option ℕ) → entry_of f 4 ≡ r → flat_if (and_then r (λ e. Some (grid_in f e))) ≡ body_if r
+  sheet-body None q = refl
+  sheet-body (Some e) q = ap Some (grid-body e (entry-size 4 e q))
 
   -- a first seat is the one field of its body
   one_field : (at n : ℕ) → n ≡ 1 → field f at ∷ [] ≡ fields_at f at n
@@ -218,14 +218,14 @@ module _ (f : List ℕ) (s : Sound f) where
   one_field at n e =
       ap (λ (i : ℕ). field f i ∷ []) {x = at} {y = at + 2 * 0} (omega arith) ∙ ap (fields_at f at) {x = 1} {y = n} (sym e)
 
-  seat-body : (r : Option ℕ) → entry_of f 5 ≡ r → one_if (and_then r (λ e. some (field f (start f e)))) ≡ body_if r
-  seat-body none q = refl
-  seat-body (some e) q = ap some (one_field (start f e) (size f e / 2) (entry-size 5 e q))
+  seat-body : (r : Option ℕ) → entry_of f 5 ≡ r → one_if (and_then r (λ e. Some (field f (start f e)))) ≡ body_if r
+  seat-body None q = refl
+  seat-body (Some e) q = ap Some (one_field (start f e) (size f e / 2) (entry-size 5 e q))
 
   -- balances and weights are the fields of their bodies
-  list-body : (k : ℕ) (r : Option ℕ) → entry_of f k ≡ r → and_then r (λ e. some (fields_at f (start f e) (body_fields f k))) ≡ body_if r
-  list-body k none q = refl
-  list-body k (some e) q = ap some (ap (fields_at f (start f e)) (sym (entry-size k e q)))
+  list-body : (k : ℕ) (r : Option ℕ) → entry_of f k ≡ r → and_then r (λ e. Some (fields_at f (start f e) (body_fields f k))) ≡ body_if r
+  list-body k None q = refl
+  list-body k (Some e) q = ap Some (ap (fields_at f (start f e)) (sym (entry-size k e q)))
 
   tail-is : opt_parts (book_of f) (sheet_of f) ≡ pieces-from 3
   unfolding opt_parts sheet_of book_of first_in balances_in weights_in

@@ -4,7 +4,7 @@
 use mathlib.Core.Bool.{Bool, true, cond}
 use mathlib.Core.List.{List}
 use mathlib.Core.Logic.{⊎_elim}
-use mathlib.Core.Option.{none, some}
+use Rattle.std.specs.Prelude.{None, Some}
 use mathlib.Core.Path.{◌≡◌, refl, sym, ◌∙◌, ap}
 use Prim.Native.Nat.{ℕ, zero, suc, ◌+◌, ◌-◌, ◌≤◌, ◌<◌}
 use native.Mathlib.Nat.{le_of_suc-le-suc, eq-or-lt_of_le}
@@ -93,7 +93,7 @@ module _ (f : List ℕ) (o : InOrder f) where
       elim (dec_lt e 3) [ yes h ↦ (let b = split-first.below e h in omega arith) | no h ↦ kind-known e (omega arith) l ]
 
   -- the next entry has the kind
-  pub hit : (e lo : ℕ) → Split e lo → e < count f → kind f e ≡ lo → entry_of f lo ≡ some e
+  pub hit : (e lo : ℕ) → Split e lo → e < count f → kind f e ≡ lo → entry_of f lo ≡ Some e
   unfolding entry_of
   hit e lo s l q =
       let has : ℕ → Bool = λ j. eqb (kind f j) lo in
@@ -112,7 +112,7 @@ module _ (f : List ℕ) (o : InOrder f) where
       }
 
   -- or no entry has
-  pub miss : (e lo : ℕ) → Split e lo → (e < count f → kind f e ≡ lo → ⊥) → entry_of f lo ≡ none
+  pub miss : (e lo : ℕ) → Split e lo → (e < count f → kind f e ≡ lo → ⊥) → entry_of f lo ≡ None
   unfolding entry_of
   miss e lo s n = lowest-fails (count f) (λ j. eqb (kind f j) lo) (λ j h. ne_eqb (kind f j) lo (λ p. no_such j h p))
     where
@@ -169,7 +169,7 @@ module _ (f : List ℕ) (o : InOrder f) where
             | no m ↦ (let r = rise e j (omega arith) p n in omega arith)
           ]
 
-  pub entry-is : (e k : ℕ) → 4 ≤ k → e < count f → kind f e ≡ k → entry_of f k ≡ some e
+  pub entry-is : (e k : ℕ) → 4 ≤ k → e < count f → kind f e ≡ k → entry_of f k ≡ Some e
   entry-is e k h l q = hit e k (split_at e k h l q) l q
 
   -- past the last kind there are no entries left

@@ -2,7 +2,7 @@
 -- Assumes nothing.
 use mathlib.Core.Bool.{Bool, true, false, not}
 use mathlib.Core.List.{List}
-use mathlib.Core.Option.{Option, none, some}
+use Rattle.std.specs.Prelude.{Option, None, Some}
 use mathlib.Core.Path.{◌≡◌, refl, sym, ◌∙◌, ap, ap₂}
 use Prim.Native.Nat.{ℕ, zero, suc, ◌+◌, ◌*◌, ◌≤◌, ◌<◌, zero-le}
 use native.Mathlib.Numerals.{add-one}
@@ -16,22 +16,22 @@ use Rattle.dayfile.proofs.Tests.{turned}
 -- ---- a search in progress
 
 module _ (bad : ℕ → Bool) where
-  pub none_first : none ≡ lowest 0 bad
+  pub none_first : None ≡ lowest 0 bad
   unfolding lowest
   none_first = refl
 
-  none-next : (i : ℕ) → lowest i bad ≡ none → bad i ≡ false → lowest (suc i) bad ≡ none
+  none-next : (i : ℕ) → lowest i bad ≡ None → bad i ≡ false → lowest (suc i) bad ≡ None
   unfolding lowest
   none-next i h p = rw (h, p)
 
-  pub none_more : {i : ℕ} → lowest i bad ≡ none → bad i ≡ false → lowest (i + 1) bad ≡ none
+  pub none_more : {i : ℕ} → lowest i bad ≡ None → bad i ≡ false → lowest (i + 1) bad ≡ None
   none_more {i} h p = ap (λ (n : ℕ). lowest n bad) (add-one i) ∙ none-next i h p
 
-  pub found_here : {i n m : ℕ} → lowest i bad ≡ none → bad i ≡ true → i < n → n ≡ m → some i ≡ lowest m bad
+  pub found_here : {i n m : ℕ} → lowest i bad ≡ None → bad i ≡ true → i < n → n ≡ m → Some i ≡ lowest m bad
   found_here {i} {n} {m} h p l q =
       sym (lowest-is m bad i (record { below = omega arith; passes = p; least = lowest-none i bad h }))
 
-  pub none_here : {i n m : ℕ} → lowest i bad ≡ none → i ≤ n → n ≤ i → n ≡ m → none ≡ lowest m bad
+  pub none_here : {i n m : ℕ} → lowest i bad ≡ None → i ≤ n → n ≤ i → n ≡ m → None ≡ lowest m bad
   none_here {i} {n} {m} h l g q = sym (ap (λ (k : ℕ). lowest k bad) {x = m} {y = i} (omega arith) ∙ h)
 
 -- ---- the loop that searches n places, of m in all: `while i < n { if bad(i) { return i; } i += 1; }`
@@ -40,7 +40,7 @@ module _ (bad : ℕ → Bool) where
 pub record Searching (bad : ℕ → Bool) (m n i : ℕ) : Type 0 where
   pub inside : i ≤ n
   pub whole : n ≡ m
-  pub clear : lowest i bad ≡ none
+  pub clear : lowest i bad ≡ None
 
 module _ {bad : ℕ → Bool} {m n : ℕ} where
   pub search-first : n ≡ m → Searching bad m n 0
@@ -49,10 +49,10 @@ module _ {bad : ℕ → Bool} {m n : ℕ} where
   pub search-on : {i : ℕ} → Searching bad m n i → i < n → bad i ≡ false → Searching bad m n (i + 1)
   search-on s l p = record { inside = omega arith; whole = s.whole; clear = none_more bad s.clear p }
 
-  pub search-hit : {i : ℕ} → Searching bad m n i → i < n → bad i ≡ true → some i ≡ lowest m bad
+  pub search-hit : {i : ℕ} → Searching bad m n i → i < n → bad i ≡ true → Some i ≡ lowest m bad
   search-hit s l p = found_here bad s.clear p l s.whole
 
-  pub search-end : {i : ℕ} → Searching bad m n i → n ≤ i → none ≡ lowest m bad
+  pub search-end : {i : ℕ} → Searching bad m n i → n ≤ i → None ≡ lowest m bad
   search-end s l = none_here bad s.clear s.inside l s.whole
 
 -- ---- the same loop through a row of numbers, where each is held against the one before:
@@ -78,11 +78,11 @@ module _ {low high : ℕ} {rising : Bool} {x : ℕ → ℕ} {n : ℕ} where
 
   pub follow-hit : {before i y : ℕ} {t : Bool} → Following low high rising x n before i → i < n
       → t ≡ right_after low high rising before y → y ≡ x i → not t ≡ true
-      → some i ≡ lowest n (λ k. not (number_right low high rising x k))
+      → Some i ≡ lowest n (λ k. not (number_right low high rising x k))
   follow-hit s l e q h = search-hit s.search l (turned (follow-test s e q) h)
 
   pub follow-end : {before i : ℕ} → Following low high rising x n before i → n ≤ i
-      → none ≡ lowest n (λ k. not (number_right low high rising x k))
+      → None ≡ lowest n (λ k. not (number_right low high rising x k))
   follow-end s l = search-end s.search l
 
 -- through the fields of a file from `at` on, by their offsets, two bytes each: `while p + 1 < end { ..; p += 2; }`
@@ -109,14 +109,14 @@ module _ {f : List ℕ} {low high : ℕ} {rising : Bool} {at n end : ℕ} where
       }
 
   pub walk-hit : {before p y : ℕ} {t : Bool} → Walking f low high rising at n end before p → p + 1 < end
-      → t ≡ right_after low high rising before y → y ≡ field f p → not t ≡ true → some p ≡ wrong_field f at n low high rising
+      → t ≡ right_after low high rising before y → y ≡ field f p → not t ≡ true → Some p ≡ wrong_field f at n low high rising
   unfolding wrong_field
   walk-hit w l e q h =
       let p = w.here in
       let z = w.ends in
-      ap some p ∙ ap (offset (λ i. at + 2 * i)) (follow-hit w.follow (omega arith) e (q ∙ ap (field f) p) h)
+      ap Some p ∙ ap (offset (λ i. at + 2 * i)) (follow-hit w.follow (omega arith) e (q ∙ ap (field f) p) h)
 
-  pub walk_end : {before p : ℕ} → Walking f low high rising at n end before p → end ≤ p + 1 → none ≡ wrong_field f at n low high rising
+  pub walk_end : {before p : ℕ} → Walking f low high rising at n end before p → end ≤ p + 1 → None ≡ wrong_field f at n low high rising
   unfolding wrong_field
   walk_end w l =
       let p = w.here in
@@ -129,13 +129,13 @@ outside-as f low high h p q = h ∙ ap₂ (λ (a n : ℕ). outside f a n low hig
 
 -- ---- what the answer tells
 
-pub offset-none : (at : ℕ → ℕ) (o : Option ℕ) → offset at o ≡ none → o ≡ none
-offset-none at none e = refl
-offset-none at (some p) e = let z : ◌≡◌ {A = ℕ} 0 1 = cc in absurd (omega arith)
+pub offset-none : (at : ℕ → ℕ) (o : Option ℕ) → offset at o ≡ None → o ≡ None
+offset-none at None e = refl
+offset-none at (Some p) e = let z : ◌≡◌ {A = ℕ} 0 1 = cc in absurd (omega arith)
 
-pub offset-some : (at : ℕ → ℕ) (o : Option ℕ) (p : ℕ) → offset at o ≡ some p → (i : ℕ) × (o ≡ some i) × (p ≡ at i)
-offset-some at none p h = let z : ◌≡◌ {A = ℕ} 0 1 = cc in absurd (omega arith)
-offset-some at (some i) p h = (i, refl, cc)
+pub offset-some : (at : ℕ → ℕ) (o : Option ℕ) (p : ℕ) → offset at o ≡ Some p → (i : ℕ) × (o ≡ Some i) × (p ≡ at i)
+offset-some at None p h = let z : ◌≡◌ {A = ℕ} 0 1 = cc in absurd (omega arith)
+offset-some at (Some i) p h = (i, refl, cc)
 
 -- two tests that agree find the same
 pub same-search : (bad worse : ℕ → Bool) (n : ℕ) → ((i : ℕ) → i < n → bad i ≡ worse i) → lowest n bad ≡ lowest n worse

@@ -3,7 +3,7 @@
 use mathlib.Core.Bool.{Bool, true, false, not, cond}
 use mathlib.Core.List.{List, [], ◌∷◌, ◌++◌}
 use mathlib.Core.Logic.{⊎_elim}
-use mathlib.Core.Option.{Option, none, some}
+use Rattle.std.specs.Prelude.{Option, None, Some}
 use mathlib.Core.Path.{◌≡◌, refl, sym, ◌∙◌, ap}
 use Prim.Native.Nat.{ℕ, zero, suc, ◌+◌, ◌*◌, ◌%◌, ◌≤◌, ◌<◌}
 use native.Mathlib.Nat.{eq-or-lt_of_le}
@@ -51,29 +51,29 @@ pub record Sound (f : List ℕ) : Type 0 where
   pub classes : FieldsWithin f (start f 0) (seats_in f) 1 8
   pub supplies : FieldsWithin f (start f 1) (windows_in f) 0 4095
   pub caps : FieldsWithin f (start f 2) (seats_in f * windows_in f) 0 4095
-  pub first : (e : ℕ) → entry_of f 5 ≡ some e → FieldsWithin f (start f e) 1 1 (seats_in f)
-  pub balances : (e : ℕ) → entry_of f 6 ≡ some e → FieldsWithin f (start f e) (seats_in f) 0 50000
-  pub weights : (e : ℕ) → entry_of f 7 ≡ some e → FieldsRight f (start f e) 8 1 1000 true
+  pub first : (e : ℕ) → entry_of f 5 ≡ Some e → FieldsWithin f (start f e) 1 1 (seats_in f)
+  pub balances : (e : ℕ) → entry_of f 6 ≡ Some e → FieldsWithin f (start f e) (seats_in f) 0 50000
+  pub weights : (e : ℕ) → entry_of f 7 ≡ Some e → FieldsRight f (start f e) 8 1 1000 true
 
 -- ---- line by line
 
 -- a test that must not fail
-pub kept : (t : Bool) (p : ℕ) → when (not t) p ≡ none → t ≡ true
+pub kept : (t : Bool) (p : ℕ) → when (not t) p ≡ None → t ≡ true
 kept t p e = not-false t (when-none (not t) p e)
 
 -- a test that must hold at each of n places
-pub all_right : (at : ℕ → ℕ) (right : ℕ → Bool) (n : ℕ) → offset at (lowest n (λ i. not (right i))) ≡ none
+pub all_right : (at : ℕ → ℕ) (right : ℕ → Bool) (n : ℕ) → offset at (lowest n (λ i. not (right i))) ≡ None
     → (i : ℕ) → i < n → right i ≡ true
 all_right at right n e i h =
     let wrong : ℕ → Bool = λ k. not (right k) in
     not-false (right i) (lowest-none n wrong (offset-none at (lowest n wrong) e) i h)
 
-none-wrong : (f : List ℕ) (at n low high : ℕ) (rising : Bool) → wrong_field f at n low high rising ≡ none
+none-wrong : (f : List ℕ) (at n low high : ℕ) (rising : Bool) → wrong_field f at n low high rising ≡ None
     → FieldsRight f at n low high rising
 unfolding wrong_field
 none-wrong f at n low high rising e = all_right (λ i. at + 2 * i) (number_right low high rising (λ k. field f (at + 2 * k))) n e
 
-pub none-outside : (f : List ℕ) (at n low high : ℕ) → outside f at n low high ≡ none → FieldsWithin f at n low high
+pub none-outside : (f : List ℕ) (at n low high : ℕ) → outside f at n low high ≡ None → FieldsWithin f at n low high
 none-outside f at n low high e = none-wrong f at n low high false e
 
 cond-when : (t x y : Bool) → cond t x y ≡ true → t ≡ true → x ≡ true
@@ -85,7 +85,7 @@ pub record Even (low high n : ℕ) : Type 0 where
   pub most : n ≤ high
   pub even : n % 2 ≡ 0
 
-pub even-size : (low high n p : ℕ) → when (not (size_right low high n)) p ≡ none → Even low high n
+pub even-size : (low high n p : ℕ) → when (not (size_right low high n)) p ≡ None → Even low high n
 unfolding size_right
 even-size low high n p e =
     let b = (and-true (within low high n) (eqb (n % 2) 0)).0 (kept (size_right low high n) p e) in
@@ -102,16 +102,16 @@ grid-size f e g k =
     eqb-true (size f e) cells (cond-when (within 3 4 (kind f e)) (eqb (size f e) cells) true g k)
 
 -- the first of two lines that do not hold, and the second
-neither : (o p : Option ℕ) → or_else o p ≡ none → (o ≡ none) × (p ≡ none)
-neither none p e = (refl, e)
-neither (some x) p e = absurd (let z : ◌≡◌ {A = ℕ} 0 1 = cc in omega arith)
+neither : (o p : Option ℕ) → or_else o p ≡ None → (o ≡ None) × (p ≡ None)
+neither None p e = (refl, e)
+neither (Some x) p e = absurd (let z : ◌≡◌ {A = ℕ} 0 1 = cc in omega arith)
 
 -- the body of an entry has n fields, each of them right
 pub record Listed (f : List ℕ) (n low high : ℕ) (rising : Bool) (e : ℕ) : Type 0 where
   pub long : size f e ≡ 2 * n
   pub fields : FieldsRight f (start f e) n low high rising
 
-pub listed : (f : List ℕ) (n low high : ℕ) (rising : Bool) (e : ℕ) → wrong_fields f n low high rising e ≡ none
+pub listed : (f : List ℕ) (n low high : ℕ) (rising : Bool) (e : ℕ) → wrong_fields f n low high rising e ≡ None
     → Listed f n low high rising e
 unfolding wrong_fields
 listed f n low high rising e h =
@@ -122,8 +122,8 @@ listed f n low high rising e h =
     }
 
 -- the body of a kind that may be missing, whose line does not hold
-listed_at : (f : List ℕ) (k n low high : ℕ) (rising : Bool) → and_then (entry_of f k) (wrong_fields f n low high rising) ≡ none
-    → (e : ℕ) → entry_of f k ≡ some e → Listed f n low high rising e
+listed_at : (f : List ℕ) (k n low high : ℕ) (rising : Bool) → and_then (entry_of f k) (wrong_fields f n low high rising) ≡ None
+    → (e : ℕ) → entry_of f k ≡ Some e → Listed f n low high rising e
 listed_at f k n low high rising h e q =
     listed f n low high rising e (ap (λ (r : Option ℕ). and_then r (wrong_fields f n low high rising)) (sym q) ∙ h)
 
@@ -154,9 +154,9 @@ module _ (f : List ℕ) (o : InOrder f) where
       let e' : ℕ = suc (suc (suc e)) in
       after e' l (let k = (split-first f o).above e' (omega arith) l in omega arith)
 
-module _ (f : List ℕ) (free : first_of (read_lines f) ≡ none) where
-  parts : (first_of (contents_lines f) ≡ none) × (first_of (length_lines f) ≡ none) × (first_of (value_lines f) ≡ none)
-      × (first_of (option_lines f) ≡ none)
+module _ (f : List ℕ) (free : first_of (read_lines f) ≡ None) where
+  parts : (first_of (contents_lines f) ≡ None) × (first_of (length_lines f) ≡ None) × (first_of (value_lines f) ≡ None)
+      × (first_of (option_lines f) ≡ None)
   unfolding read_lines
   parts =
       let a = none-parts (contents_lines f) (length_lines f ++ (value_lines f ++ option_lines f)) free in

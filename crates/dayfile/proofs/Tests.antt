@@ -1,7 +1,7 @@
 -- Tests joined by `and`, chosen by `cond`, and the line of a table that holds where a test fails.
 -- Assumes nothing.
 use mathlib.Core.Bool.{Bool, true, false, not, cond, ◌&&◌}
-use mathlib.Core.Option.{Option, none, some}
+use Rattle.std.specs.Prelude.{Option, None, Some}
 use mathlib.Core.Path.{◌≡◌, refl, sym, ◌∙◌, ap, ap₂}
 use Prim.Native.Nat.{ℕ, ◌≤◌, ◌<◌}
 use native.Mathlib.Omega.{arith}
@@ -68,22 +68,22 @@ outside-at-as low high x at e q = e ∙ ap (λ (x : ℕ). when (not (within low 
 
 -- ---- a line whose condition is a test, or that a test fails: t is the code's test
 
-pub yes-when : {b : Bool} (p : ℕ) → b ≡ true → some p ≡ when b p
+pub yes-when : {b : Bool} (p : ℕ) → b ≡ true → Some p ≡ when b p
 yes-when p h = ap (λ (x : Bool). when x p) (sym h)
 
-pub no-when : {b : Bool} (p : ℕ) → b ≡ false → none ≡ when b p
+pub no-when : {b : Bool} (p : ℕ) → b ≡ false → None ≡ when b p
 no-when p h = ap (λ (x : Bool). when x p) (sym h)
 
-pub keeps : {t b : Bool} (p : ℕ) → t ≡ b → t ≡ true → none ≡ when (not b) p
+pub keeps : {t b : Bool} (p : ℕ) → t ≡ b → t ≡ true → None ≡ when (not b) p
 keeps p e h = ap (λ (x : Bool). when (not x) p) (sym h ∙ e)
 
-pub fails : {t b : Bool} (p : ℕ) → t ≡ b → t ≡ false → some p ≡ when (not b) p
+pub fails : {t b : Bool} (p : ℕ) → t ≡ b → t ≡ false → Some p ≡ when (not b) p
 fails p e h = ap (λ (x : Bool). when (not x) p) (sym h ∙ e)
 
 -- the code's test, turned round
 pub turned : {t b v : Bool} → t ≡ b → not t ≡ v → not b ≡ v
 turned e h = ap not (sym e) ∙ h
 
-pub when-none : (t : Bool) (p : ℕ) → when t p ≡ none → t ≡ false
+pub when-none : (t : Bool) (p : ℕ) → when t p ≡ None → t ≡ false
 when-none false p e = refl
 when-none true p e = let z : ◌≡◌ {A = ℕ} 0 1 = cc in absurd (omega arith)

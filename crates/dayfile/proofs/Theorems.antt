@@ -2,7 +2,7 @@
 -- Assumes nothing.
 use mathlib.Core.List.{List}
 use mathlib.Core.Logic.{◌↔◌}
-use mathlib.Core.Option.{Option, none, some}
+use Rattle.std.specs.Prelude.{Option, None, Some}
 use mathlib.Core.Bool.{true}
 use mathlib.Core.Path.{◌≡◌, refl, sym, ◌∙◌, ap, ap₂, subst}
 use Prim.Native.Nat.{ℕ, ◌-◌, ◌≤◌, ◌<◌}
@@ -60,18 +60,18 @@ accepted-fits f b s e =
     (fits f (sound f g.0), sheet-fits f, sheet-two-byte f)
 
 -- paper 01's table is one that a kind 7 body may hold: what is shown over every such table is shown over it
-pub built-in-fits : WeightsFit (some class_weights)
+pub built-in-fits : WeightsFit (Some class_weights)
 unfolding lowest
 built-in-fits =
-    list-weights (some class_weights) (refl, all_right (λ i. i) (number_right 1 1000 true (λ k. get_or class_weights k 0)) 8 refl)
+    list-weights (Some class_weights) (refl, all_right (λ i. i) (number_right 1 1000 true (λ k. get_or class_weights k 0)) 8 refl)
 
 -- so in every book that fits the weights in force, its own or paper 01's, are eight, 1 to 1,000, each greater than the one before
-pub in-force-fits : (b : Book) → Fit b → WeightsFit (some (weights_of b))
+pub in-force-fits : (b : Book) → Fit b → WeightsFit (Some (weights_of b))
 in-force-fits b fit = go b.weights fit.weights_fit
   where
-    go : (o : Option (List ℕ)) → WeightsFit o → WeightsFit (some (value_or o class_weights))
-    go none h = built-in-fits
-    go (some ws) h = h
+    go : (o : Option (List ℕ)) → WeightsFit o → WeightsFit (Some (value_or o class_weights))
+    go None h = built-in-fits
+    go (Some ws) h = h
 
 -- and a seat has the weight in force of its class, as it stands in the table
 pub seat-weight : (b : Book) → Fit b → (i : ℕ) → i < seats b → (instance_of b).weight i ≡ get_or (weights_of b) (get_or b.classes i 0 - 1) 0
@@ -107,16 +107,16 @@ longest f b s by e =
     let back = ap length (read-writes-back f b s by e) in
     let fit = accepted-fits f b s e in let short = file-short b s fit.0 fit.1 in omega arith
 
-pub longest-there : (f : List ℕ) × Bytes f × (read_file f ≡ answer (long_book, some long_sheet)) × (length f ≡ longest_file)
+pub longest-there : (f : List ℕ) × Bytes f × (read_file f ≡ answer (long_book, Some long_sheet)) × (length f ≡ longest_file)
 longest-there = (
-  file_of long_book (some long_sheet),
-  file-bytes long_book (some long_sheet) long-fits long-sheet-fits long-two-byte,
-  written_reads_back long_book (some long_sheet) long-fits long-sheet-fits,
+  file_of long_book (Some long_sheet),
+  file-bytes long_book (Some long_sheet) long-fits long-sheet-fits long-two-byte,
+  written_reads_back long_book (Some long_sheet) long-fits long-sheet-fits,
   long-length,
 )
 
 -- in memory: a day that the writer's lines take, written and read, is the same in all used entries
-pub memory-reads-back : (d : Day) (room : ℕ) → first_of (write_lines (file_in d) room) ≡ none
+pub memory-reads-back : (d : Day) (room : ℕ) → first_of (write_lines (file_in d) room) ≡ None
     → read_file (file_in d) ≡ answer (day_book d, day_sheet d)
 unfolding file_with
 memory-reads-back d room e =
@@ -125,7 +125,7 @@ memory-reads-back d room e =
     (sheet-shaped d.book (grid_of d.caps) d.has_sheet (grid_of d.sheet))
 
 -- a day that holds what an accepted file says: its book is the file's, and so is its sheet
-pub holds-accepted : (f : List ℕ) (d : Day) → first_of (read_lines f) ≡ none → Holds (book_of f) (sheet_of f) d
+pub holds-accepted : (f : List ℕ) (d : Day) → first_of (read_lines f) ≡ None → Holds (book_of f) (sheet_of f) d
     → (day_book d ≡ book_of f) × (day_sheet d ≡ sheet_of f)
 holds-accepted f d free h =
     let fit = fits f (sound f free) in (

@@ -2,7 +2,7 @@
 -- Assumes nothing.
 use mathlib.Core.Bool.{Bool, true, false, true≢false, not, cond, ◌&&◌}
 use mathlib.Core.List.{List, [], ◌∷◌, ◌++◌}
-use mathlib.Core.Option.{Option, none, some}
+use Rattle.std.specs.Prelude.{Option, None, Some}
 use mathlib.Core.Path.{◌≡◌, refl, sym, ◌∙◌, ap, ap₂}
 use Prim.Native.Nat.{ℕ, zero, suc, ◌+◌, ◌-◌, ◌*◌, ◌%◌, ◌≤◌, ◌<◌, zero-le}
 use native.Mathlib.Omega.{arith}
@@ -42,7 +42,7 @@ same-right f at low high rising xs q i l =
 
 -- fields that are all right
 right-none : (f : List ℕ) (at n low high : ℕ) (rising : Bool) (xs : List ℕ)
-    → n ≡ length xs → fields_at f at (length xs) ≡ xs → AllRight low high rising xs → wrong_field f at n low high rising ≡ none
+    → n ≡ length xs → fields_at f at (length xs) ≡ xs → AllRight low high rising xs → wrong_field f at n low high rising ≡ None
 unfolding wrong_field
 right-none f at n low high rising xs e q h =
     ap (offset (λ i. at + 2 * i))
@@ -51,7 +51,7 @@ right-none f at n low high rising xs e q h =
 
 -- fields that are all low to high
 outside-none : (f : List ℕ) (at n low high : ℕ) (xs : List ℕ)
-    → n ≡ length xs → fields_at f at (length xs) ≡ xs → AllRight low high false xs → outside f at n low high ≡ none
+    → n ≡ length xs → fields_at f at (length xs) ≡ xs → AllRight low high false xs → outside f at n low high ≡ None
 outside-none f at n low high xs e q h = right-none f at n low high false xs e q h
 
 -- ---- a body that may be missing: what its line says, by its numbers
@@ -63,12 +63,12 @@ ListFit n low high rising xs = (length xs ≡ n) × AllRight low high rising xs
 module _ (ps : List Part) (k n low high : ℕ) (rising : Bool) where
   -- its line does not hold where it fits
   fits-none : (r : Option ℕ) (o : Option (List ℕ)) → BodyAt ps k r o → IfThere (ListFit n low high rising) o
-      → and_then r (wrong_fields (assemble (length ps) ps) n low high rising) ≡ none
+      → and_then r (wrong_fields (assemble (length ps) ps) n low high rising) ≡ None
   unfolding wrong_fields
-  fits-none none none h g = refl
-  fits-none none (some xs) h g = absurd h
-  fits-none (some e) none h g = absurd h
-  fits-none (some e) (some xs) h g =
+  fits-none None None h g = refl
+  fits-none None (Some xs) h g = absurd h
+  fits-none (Some e) None h g = absurd h
+  fits-none (Some e) (Some xs) h g =
       let file : List ℕ = assemble (length ps) ps in
       let long = size_is (length ps) ps refl e h.0 ∙ ap (λ (ys : List ℕ). 2 * length ys) h.1 ∙ ap (λ (i : ℕ). 2 * i) g.0 in
       let there = body_is (length ps) ps refl e h.0 in
@@ -79,11 +79,11 @@ module _ (ps : List Part) (k n low high : ℕ) (rising : Bool) where
 
   -- and nowhere else
   pub none-fits : (r : Option ℕ) (o : Option (List ℕ)) → BodyAt ps k r o
-      → and_then r (wrong_fields (assemble (length ps) ps) n low high rising) ≡ none → IfThere (ListFit n low high rising) o
-  none-fits none none h g = tt
-  none-fits none (some xs) h g = absurd h
-  none-fits (some e) none h g = absurd h
-  none-fits (some e) (some xs) h g =
+      → and_then r (wrong_fields (assemble (length ps) ps) n low high rising) ≡ None → IfThere (ListFit n low high rising) o
+  none-fits None None h g = tt
+  none-fits None (Some xs) h g = absurd h
+  none-fits (Some e) None h g = absurd h
+  none-fits (Some e) (Some xs) h g =
       let file : List ℕ = assemble (length ps) ps in
       let told = listed file n low high rising e g in
       let size = size_is (length ps) ps refl e h.0 ∙ ap (λ (ys : List ℕ). 2 * length ys) h.1 in
@@ -96,32 +96,32 @@ module _ (ps : List Part) (k n low high : ℕ) (rising : Bool) where
 
 -- a first seat is one number
 seat-list : (n : ℕ) (k : Option ℕ) → FirstFit n k → IfThere (ListFit 1 1 n false) (one_if k)
-seat-list n none h = tt
-seat-list n (some x) h = (refl, one)
+seat-list n None h = tt
+seat-list n (Some x) h = (refl, one)
   where
     one : AllRight 1 n false (x ∷ [])
     one zero l = is_within 1 n x h.0 h.1
     one (suc i) l = absurd (omega arith)
 
 pub list-seat : (n : ℕ) (k : Option ℕ) → IfThere (ListFit 1 1 n false) (one_if k) → FirstFit n k
-list-seat n none h = tt
-list-seat n (some x) h = let v = h.1 0 (omega arith) in (within_low 1 n x v, within-high 1 n x v)
+list-seat n None h = tt
+list-seat n (Some x) h = let v = h.1 0 (omega arith) in (within_low 1 n x v, within-high 1 n x v)
 
 -- balances are one number for each seat
 balances-list : (n : ℕ) (o : Option (List ℕ)) → BalancesFit n o → IfThere (ListFit n 0 50000 false) o
-balances-list n none h = tt
-balances-list n (some xs) h =
+balances-list n None h = tt
+balances-list n (Some xs) h =
     let long = h.0 in (long, λ i l. is_within 0 50000 (get_or xs i 0) zero-le (h.1 i (omega arith)))
 
 pub list-balances : (n : ℕ) (o : Option (List ℕ)) → IfThere (ListFit n 0 50000 false) o → BalancesFit n o
-list-balances n none h = tt
-list-balances n (some xs) h =
+list-balances n None h = tt
+list-balances n (Some xs) h =
     let long = h.0 in (long, λ i l. within-high 0 50000 (get_or xs i 0) (h.1 i (omega arith)))
 
 -- weights are eight numbers that rise
 weights-list : (o : Option (List ℕ)) → WeightsFit o → IfThere (ListFit 8 1 1000 true) o
-weights-list none h = tt
-weights-list (some ws) h = (h.0, each)
+weights-list None h = tt
+weights-list (Some ws) h = (h.0, each)
   where
     each : AllRight 1 1000 true ws
     each zero l =
@@ -131,8 +131,8 @@ weights-list (some ws) h = (h.0, each)
         let b = h.1 (suc k) (omega arith) in rises-within 1 1000 (get_or ws k 0) (get_or ws (suc k) 0) (h.2 k (omega arith)) b.0 b.1
 
 pub list-weights : (o : Option (List ℕ)) → IfThere (ListFit 8 1 1000 true) o → WeightsFit o
-list-weights none h = tt
-list-weights (some ws) h =
+list-weights None h = tt
+list-weights (Some ws) h =
     let long = h.0 in (
       long,
       λ k l. let r = h.1 k (omega arith) in (after-low 1 1000 _ (get_or ws k 0) r, after-high 1 1000 _ (get_or ws k 0) r),
@@ -145,13 +145,13 @@ GridPart n p = within 3 4 p.sort ≡ true → length p.body ≡ n
 
 sheet-grid : (b : Book) (o : Option Grid) → SheetFit b o
     → IfThere (λ xs. GridPart (seats b * windows b) (part 4 xs)) (flat_if o)
-sheet-grid b none s = tt
-sheet-grid b (some g) s = λ h. flat-length (seats b) (windows b) g s
+sheet-grid b None s = tt
+sheet-grid b (Some g) s = λ h. flat-length (seats b) (windows b) g s
 
 -- and the kinds after them have none
 no-grid : (n k : ℕ) → within 3 4 k ≡ false → (o : Option (List ℕ)) → IfThere (λ xs. GridPart n (part k xs)) o
-no-grid n k e none = tt
-no-grid n k e (some xs) = λ h. absurd (true≢false (sym h ∙ e))
+no-grid n k e None = tt
+no-grid n k e (Some xs) = λ h. absurd (true≢false (sym h ∙ e))
 
 module _ (b : Book) (o : Option Grid) where
   abbrev ps : List Part
@@ -337,17 +337,17 @@ module _ (b : Book) (o : Option Grid) where
 
     -- ---- line by line: contents
 
-    at1 : line1 f ≡ none
+    at1 : line1 f ≡ None
     unfolding line1
     at1 = let r = room in ap (λ (t : Bool). when t (length f)) (le-ltb (length f) 2 (omega arith))
 
-    at2 : line2 f ≡ none
+    at2 : line2 f ≡ None
     unfolding line2
     at2 =
         ap (λ (t : Bool). when (not t) 0)
         (ap (within 3 known) count-f ∙ is_within 3 known (length ps) (omega arith) few)
 
-    at3 : line3 f ≡ none
+    at3 : line3 f ≡ None
     unfolding line3
     at3 =
         let r = room in
@@ -355,19 +355,19 @@ module _ (b : Book) (o : Option Grid) where
 
     -- a test that each entry passes
     none-at : (at : ℕ → ℕ) (right : ℕ → Bool) → ((e : ℕ) → e < length ps → right e ≡ true)
-        → offset at (lowest (count f) (λ e. not (right e))) ≡ none
+        → offset at (lowest (count f) (λ e. not (right e))) ≡ None
     none-at at right h =
         let c = count-f in ap (offset at) (lowest-fails (count f) (λ e. not (right e)) (λ e l. ap not (h e (omega arith))))
 
-    at4 : line4 f ≡ none
+    at4 : line4 f ≡ None
     unfolding line4
     at4 = none-at kind_at (kind_right f) kind-right-f
 
-    at5 : line5 f ≡ none
+    at5 : line5 f ≡ None
     unfolding line5
     at5 = none-at start_at (λ e. eqb (start f e) (ends f e)) (λ e h. eq-eqb (start f e) (ends f e) (start-f e h))
 
-    at6 : line6 f ≡ none
+    at6 : line6 f ≡ None
     unfolding line6
     at6 =
         ap (λ (t : Bool). when (not t) (length f)) (eq-eqb (ends f (count f)) (length f) (ap (ends f) count-f ∙ end-f))
@@ -379,15 +379,15 @@ module _ (b : Book) (o : Option Grid) where
     even-right low high n h k =
         ap₂ (λ (x y : Bool). x && y) (is_within low high (2 * n) h k) (eq-eqb (2 * n % 2) 0 (omega arith))
 
-    size_none : (e high n : ℕ) → size f e ≡ 2 * n → 1 ≤ n → 2 * n ≤ high → when (not (size_right 2 high (size f e))) (size_at e) ≡ none
+    size_none : (e high n : ℕ) → size f e ≡ 2 * n → 1 ≤ n → 2 * n ≤ high → when (not (size_right 2 high (size f e))) (size_at e) ≡ None
     size_none e high n q l h =
         ap (λ (t : Bool). when (not t) (size_at e)) (ap (size_right 2 high) q ∙ even-right 2 high n (omega arith) h)
 
-    at7 : line7 f ≡ none
+    at7 : line7 f ≡ None
     unfolding line7
     at7 = size_none 0 64 S (size-f 0 (omega arith)) fit.seats_low (omega (arith, fit.seats_high))
 
-    at8 : line8 f ≡ none
+    at8 : line8 f ≡ None
     unfolding line8
     at8 = size_none 1 48 W (size-f 1 (omega arith)) fit.windows_low (omega (arith, fit.windows_high))
 
@@ -410,25 +410,25 @@ module _ (b : Book) (o : Option Grid) where
         ap (λ (k : ℕ). cond (within 3 4 k) (eqb (size f e) (2 * (seats_in f * windows_in f))) true) (kind-f e h)
         ∙ grid-if e h (within 3 4 (nth ps e).sort) refl (grid-part e h)
 
-    at9 : line9 f ≡ none
+    at9 : line9 f ≡ None
     unfolding line9
     at9 = none-at size_at (grid_right f) grid-right-f
 
     -- ---- values
 
-    at10 : line10 f ≡ none
+    at10 : line10 f ≡ None
     unfolding line10
     at10 =
         outside-none f (start f 0) (seats_in f) 1 8 b.classes seats-f (body-f 0 (omega arith))
         (λ i h. is_within 1 8 (get_or b.classes i 0) (fit.class_low i h) (fit.class_high i h))
 
-    at11 : line11 f ≡ none
+    at11 : line11 f ≡ None
     unfolding line11
     at11 =
         outside-none f (start f 1) (windows_in f) 0 4095 b.supplies windows-f (body-f 1 (omega arith))
         (λ i h. is_within 0 4095 (get_or b.supplies i 0) zero-le (fit.supply_high i h))
 
-    at12 : line12 f ≡ none
+    at12 : line12 f ≡ None
     unfolding line12
     at12 =
         outside-none f (start f 2) (seats_in f * windows_in f) 0 4095 (flat b.caps) (cells ∙ sym caps-f) (body-f 2 (omega arith))
@@ -437,25 +437,25 @@ module _ (b : Book) (o : Option Grid) where
 
     -- ---- parts that may be missing
 
-    at18 : line18 f ≡ none
+    at18 : line18 f ≡ None
     unfolding line18
     at18 =
         ap (λ (n : ℕ). and_then (entry_of f 5) (wrong_fields f 1 1 n false)) seats-f
         ∙ fits-none ps ahead 1 1 S false (entry_of f 5) (one_if b.first) first-look.body (seat-list S b.first fit.first_seat)
 
-    at19 : line19 f ≡ none
+    at19 : line19 f ≡ None
     unfolding line19
     at19 =
         ap (λ (n : ℕ). and_then (entry_of f 6) (wrong_fields f n 0 50000 false)) seats-f
         ∙ fits-none ps behind S 0 50000 false (entry_of f 6) b.balances balances-look.body
         (balances-list S b.balances fit.balances_fit)
 
-    at20 : line20 f ≡ none
+    at20 : line20 f ≡ None
     unfolding line20
     at20 =
         fits-none ps beyond 8 1 1000 true (entry_of f 7) b.weights weights-look.body (weights-list b.weights fit.weights_fit)
 
-    no_line : first_of (read_lines f) ≡ none
+    no_line : first_of (read_lines f) ≡ None
     unfolding read_lines contents_lines length_lines value_lines option_lines
     no_line = rw (at1, at2, at3, at4, at5, at6, at7, at8, at9, at10, at11, at12, at18, at19, at20)
 
@@ -464,20 +464,20 @@ module _ (b : Book) (o : Option Grid) where
     abbrev made : List ℕ → List ℕ → Grid → Option ℕ → Option (List ℕ) → Option (List ℕ) → Book
     made x y z k xs ws = record { classes = x; supplies = y; caps = z; first = k; balances = xs; weights = ws }
 
-    seat-at : (r k : Option ℕ) → BodyAt ps ahead r (one_if k) → and_then r (λ e. some (field f (start f e))) ≡ k
-    seat-at none none h = refl
-    seat-at none (some x) h = absurd h
-    seat-at (some e) none h = absurd h
-    seat-at (some e) (some x) h = ap some (one-f e x h.0 h.1)
+    seat-at : (r k : Option ℕ) → BodyAt ps ahead r (one_if k) → and_then r (λ e. Some (field f (start f e))) ≡ k
+    seat-at None None h = refl
+    seat-at None (Some x) h = absurd h
+    seat-at (Some e) None h = absurd h
+    seat-at (Some e) (Some x) h = ap Some (one-f e x h.0 h.1)
 
     -- n numbers
     list_at : (k n low high : ℕ) (up : Bool) (r : Option ℕ) (l : Option (List ℕ)) → BodyAt ps k r l → IfThere (ListFit n low high up) l
-        → and_then r (λ e. some (fields_at f (start f e) n)) ≡ l
-    list_at k n low high up none none h g = refl
-    list_at k n low high up none (some xs) h g = absurd h
-    list_at k n low high up (some e) none h g = absurd h
-    list_at k n low high up (some e) (some xs) h g =
-        ap some (ap (fields_at f (start f e)) (sym g.0 ∙ ap length (sym h.1)) ∙ body-f e h.0 ∙ h.1)
+        → and_then r (λ e. Some (fields_at f (start f e) n)) ≡ l
+    list_at k n low high up None None h g = refl
+    list_at k n low high up None (Some xs) h g = absurd h
+    list_at k n low high up (Some e) None h g = absurd h
+    list_at k n low high up (Some e) (Some xs) h g =
+        ap Some (ap (fields_at f (start f e)) (sym g.0 ∙ ap length (sym h.1)) ∙ body-f e h.0 ∙ h.1)
 
     grid-f : (e : ℕ) (g : Grid) → e < length ps → (nth ps e).body ≡ flat g → Shaped S W g
         → grid_in f e ≡ g
@@ -495,20 +495,20 @@ module _ (b : Book) (o : Option Grid) where
         ∙ ap₂ (λ (z : Grid) (k : Option ℕ). made b.classes b.supplies z k (balances_in f) (weights_in f))
         (grid-f 2 b.caps (omega arith) refl fit.cap_shape) (seat-at (entry_of f 5) b.first first-look.body)
         ∙ ap₂ (made b.classes b.supplies b.caps b.first)
-        (ap (λ (n : ℕ). and_then (entry_of f 6) (λ e. some (fields_at f (start f e) n))) seats-f
+        (ap (λ (n : ℕ). and_then (entry_of f 6) (λ e. Some (fields_at f (start f e) n))) seats-f
         ∙ list_at behind S 0 50000 false (entry_of f 6) b.balances balances-look.body
         (balances-list S b.balances fit.balances_fit))
         (list_at beyond 8 1 1000 true (entry_of f 7) b.weights weights-look.body (weights-list b.weights fit.weights_fit))
 
     -- a grid of a kind that may be missing
     grid-at : (r : Option ℕ) (g : Option Grid) → SheetFit b g → BodyAt ps lists r (flat_if g)
-        → and_then r (λ e. some (grid_in f e)) ≡ g
-    grid-at none none p h = refl
-    grid-at none (some g) p h = absurd h
-    grid-at (some e) none p h = absurd h
-    grid-at (some e) (some g) p h = ap some (grid-f e g h.0 h.1 p)
+        → and_then r (λ e. Some (grid_in f e)) ≡ g
+    grid-at None None p h = refl
+    grid-at None (Some g) p h = absurd h
+    grid-at (Some e) None p h = absurd h
+    grid-at (Some e) (Some g) p h = ap Some (grid-f e g h.0 h.1 p)
 
-    pub written-free : first_of (read_lines (file_of b o)) ≡ none
+    pub written-free : first_of (read_lines (file_of b o)) ≡ None
     unfolding file_of parts_of
     written-free = no_line
 

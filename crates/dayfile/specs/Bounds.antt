@@ -1,22 +1,22 @@
 -- Paper 01, "The book", and paper 02: what holds of every book and sheet that a day file can hold.
-use Rattle.std.proofs.Math.Option.{Option, none, some}
+use Rattle.std.specs.Prelude.{Option, None, Some}
 use Rattle.std.specs.Prelude.{◌≡◌, List, ℕ, suc, ◌≤◌, ◌<◌, length, get_or}
 use Rattle.model.specs.Book.{Book, Grid, Shaped, SheetOf, cell, seats, windows}
 
 -- a seat that is named as the first is one of the book's
 abbrev pub FirstFit : ℕ → Option ℕ → Type 0
-FirstFit n none = Unit {0}
-FirstFit n (some k) = (1 ≤ k) × (k ≤ n)
+FirstFit n None = Unit {0}
+FirstFit n (Some k) = (1 ≤ k) × (k ≤ n)
 
 -- balances are one for each of n seats, 0 to 50,000
 abbrev pub BalancesFit : ℕ → Option (List ℕ) → Type 0
-BalancesFit n none = Unit {0}
-BalancesFit n (some xs) = (length xs ≡ n) × ((i : ℕ) → i < n → get_or xs i 0 ≤ 50000)
+BalancesFit n None = Unit {0}
+BalancesFit n (Some xs) = (length xs ≡ n) × ((i : ℕ) → i < n → get_or xs i 0 ≤ 50000)
 
 -- weights are eight, 1 to 1,000, each greater than the one before
 abbrev pub WeightsFit : Option (List ℕ) → Type 0
-WeightsFit none = Unit {0}
-WeightsFit (some ws) =
+WeightsFit None = Unit {0}
+WeightsFit (Some ws) =
     (length ws ≡ 8)
     × ((k : ℕ) → k < 8 → (1 ≤ get_or ws k 0) × (get_or ws k 0 ≤ 1000)) × ((k : ℕ) → suc k < 8 → get_or ws k 0 < get_or ws (suc k) 0)
 
@@ -38,13 +38,13 @@ pub record Fit (b : Book) : Type 0 where
 
 -- a sheet has one cell per seat and window; it may be missing
 abbrev pub SheetFit : Book → Option Grid → Type 0
-SheetFit b none = Unit {0}
-SheetFit b (some s) = SheetOf b s
+SheetFit b None = Unit {0}
+SheetFit b (Some s) = SheetOf b s
 
 -- and each of its cells is a two-byte number
 abbrev pub TwoByte : Book → Option Grid → Type 0
-TwoByte b none = Unit {0}
-TwoByte b (some s) = (i j : ℕ) → i < seats b → j < windows b → cell s i j < 65536
+TwoByte b None = Unit {0}
+TwoByte b (Some s) = (i j : ℕ) → i < seats b → j < windows b → cell s i j < 65536
 
 -- the longest file has 32 seats, 24 windows, a sheet, a first seat, balances and weights
 abbrev pub longest_file : ℕ

@@ -1,7 +1,7 @@
 -- Paper 01, "The day file", with paper 02's kinds 5, 6 and 7: the file of a book, with or without a sheet. A file is a list of parts, and
 -- its contents, its offsets and its bytes are computed from that list.
 use Rattle.std.specs.Prelude.{List, [], ◌∷◌, ◌++◌, ℕ, ◌+◌, ◌*◌, ◌/◌, ◌%◌, length}
-use Rattle.std.proofs.Math.Option.{Option, none, some}
+use Rattle.std.specs.Prelude.{Option, None, Some}
 use Rattle.model.specs.Lowest.{and_then}
 use Rattle.model.specs.Book.{Book, Grid}
 use Rattle.dayfile.specs.Layout.{contents_end}
@@ -44,16 +44,16 @@ flat [] = []
 flat (r ∷ rs) = r ++ flat rs
 
 abbrev pub flat_if : Option Grid → Option (List ℕ)
-flat_if s = and_then s (λ g. some (flat g))
+flat_if s = and_then s (λ g. Some (flat g))
 
 -- one number, if it is there
 abbrev pub one_if : Option ℕ → Option (List ℕ)
-one_if o = and_then o (λ x. some (x ∷ []))
+one_if o = and_then o (λ x. Some (x ∷ []))
 
 -- a part that may be missing
 unfoldable pub opt_part : ℕ → Option (List ℕ) → List Part
-opt_part k none = []
-opt_part k (some xs) = part k xs ∷ []
+opt_part k None = []
+opt_part k (Some xs) = part k xs ∷ []
 
 -- the parts that may be missing, in the order of their kinds
 unfoldable pub opt_parts : Book → Option Grid → List Part

@@ -2,7 +2,7 @@
 -- Entries count from 0.
 -- All of it is total: a byte past the file's end counts as 0.
 use Rattle.std.specs.Prelude.{cond, List, [], ℕ, ◌+◌, ◌-◌, ◌*◌, ◌/◌, ◌<◌, eqb, get_or, take, drop}
-use Rattle.std.proofs.Math.Option.{Option, some}
+use Rattle.std.specs.Prelude.{Option, Some}
 use Rattle.fairness.specs.Leximin.{table}
 use Rattle.model.specs.Lowest.{lowest, and_then, value_or}
 use Rattle.model.specs.Book.{Book, Grid}
@@ -78,15 +78,15 @@ grid_in f e = grid_at f (start f e) (seats_in f) (windows_in f)
 
 -- kind 5: one field, the seat that comes first today; it may be missing
 unfoldable pub first_in : List ℕ → Option ℕ
-first_in f = and_then (entry_of f 5) (λ e. some (field f (start f e)))
+first_in f = and_then (entry_of f 5) (λ e. Some (field f (start f e)))
 
 -- kind 6: one balance per seat; it may be missing
 unfoldable pub balances_in : List ℕ → Option (List ℕ)
-balances_in f = and_then (entry_of f 6) (λ e. some (fields_at f (start f e) (seats_in f)))
+balances_in f = and_then (entry_of f 6) (λ e. Some (fields_at f (start f e) (seats_in f)))
 
 -- kind 7: eight weights, of classes 1 to 8; it may be missing
 unfoldable pub weights_in : List ℕ → Option (List ℕ)
-weights_in f = and_then (entry_of f 7) (λ e. some (fields_at f (start f e) 8))
+weights_in f = and_then (entry_of f 7) (λ e. Some (fields_at f (start f e) 8))
 
 -- kind 1: each seat's class; kind 2: each window's supply; kind 3: caps; kind 5: the first seat; kind 6: balances; kind 7: weights
 unfoldable pub book_of : List ℕ → Book
@@ -102,7 +102,7 @@ book_of f =
 
 -- kind 4: the sheet, laid out as kind 3; it may be missing
 unfoldable pub sheet_of : List ℕ → Option Grid
-sheet_of f = and_then (entry_of f 4) (λ e. some (grid_in f e))
+sheet_of f = and_then (entry_of f 4) (λ e. Some (grid_in f e))
 
 -- the sheet marked: the file's kind 4 body
 abbrev pub marked_sheet : List ℕ → Grid
@@ -110,10 +110,10 @@ marked_sheet f = value_or (sheet_of f) []
 
 -- where the sheet's body starts, and its length in bytes; 0 where there is none
 abbrev pub sheet_start : List ℕ → ℕ
-sheet_start f = value_or (and_then (entry_of f 4) (λ e. some (start f e))) 0
+sheet_start f = value_or (and_then (entry_of f 4) (λ e. Some (start f e))) 0
 
 abbrev pub sheet_size : List ℕ → ℕ
-sheet_size f = value_or (and_then (entry_of f 4) (λ e. some (size f e))) 0
+sheet_size f = value_or (and_then (entry_of f 4) (λ e. Some (size f e))) 0
 
 -- the sheet body: that part of the file
 unfoldable pub sheet_body : List ℕ → List ℕ

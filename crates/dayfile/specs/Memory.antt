@@ -1,7 +1,7 @@
 -- A day in memory: a book, with one grid of caps, 32 rows of 24, and one sheet of the same form, of which the front is used. And what the
 -- answers of the code say, with the contracts of the reader and of the calls that write a file.
 use Rattle.std.specs.Prelude.{Bool, true, false, List, [], ◌++◌, ◌≡◌, ℕ, ◌<◌, length, get_or, drop}
-use Rattle.std.proofs.Math.Option.{Option, none, some}
+use Rattle.std.specs.Prelude.{Option, None, Some}
 use Rattle.fairness.specs.Leximin.{table}
 use Rattle.model.specs.Lowest.{when, value_or, is_some}
 use Rattle.model.specs.Book.{Book, Grid, seats, windows}
@@ -46,8 +46,8 @@ cells_in m grid = sized_grid m.seats m.windows grid
 
 -- the sheet that is in memory, if there is one
 abbrev pub sheet_in : Memory.Book → Bool → Grid → Option Grid
-sheet_in m true sheet = some (cells_in m sheet)
-sheet_in m false sheet = none
+sheet_in m true sheet = Some (cells_in m sheet)
+sheet_in m false sheet = None
 
 -- the file of a book that is in memory, with or without a sheet
 unfoldable pub file_with : Memory.Book → Grid → Bool → Grid → List ℕ
@@ -88,22 +88,22 @@ pub record Holds (b : Book) (s : Option Grid) (d : Day) : Type 0 where
 
 -- no seats and no windows: a day that holds it has 0 everywhere
 abbrev pub no_book : Book
-no_book = record { classes = []; supplies = []; caps = []; first = none; balances = none; weights = none }
+no_book = record { classes = []; supplies = []; caps = []; first = None; balances = None; weights = None }
 
 -- ---- what answers say
 
 abbrev pub found : Found → Option ℕ
-found (At p) = some p
-found Nothing = none
+found (At p) = Some p
+found Nothing = None
 
 -- what was found, if anything, is below n
 abbrev pub Under : ℕ → Option ℕ → Type 0
-Under n none = Unit {0}
-Under n (some p) = p < n
+Under n None = Unit {0}
+Under n (Some p) = p < n
 
 abbrev pub refused : Check.Check → Option Refusal
-refused (Check.TheVariants.Refused n p) = some (refuse n p)
-refused Check.TheVariants.Sound = none
+refused (Check.TheVariants.Refused n p) = Some (refuse n p)
+refused Check.TheVariants.Sound = None
 
 abbrev pub written : Written.Written → Outcome ℕ
 written (Written.TheVariants.Refused n p) = turned_away (refuse n p)
@@ -120,7 +120,7 @@ reading r = reading_as r.check r.day
 -- the reader's contract: down its lines, the day of the file; at a refusal a day of zeros
 pub record Reads (file : List ℕ) (r : Reading) : Type 0 where
   pub defined : Defined (read_lines file) [] [] (reading r) (Holds (book_of file) (sheet_of file))
-  pub zeros : (q : Refusal) → reading r ≡ turned_away q → Holds no_book none r.day
+  pub zeros : (q : Refusal) → reading r ≡ turned_away q → Holds no_book None r.day
 
 -- a file at the front of a buffer; the bytes after it keep their values
 unfoldable pub front : List ℕ → List ℕ → List ℕ

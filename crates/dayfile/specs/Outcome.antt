@@ -1,6 +1,6 @@
 -- What a call answers: a refusal, or what it gives; what a file says; and the one shape of every public call's contract.
 use Rattle.std.specs.Prelude.{List, [], ◌∷◌, ◌++◌, ◌↔◌, ◌≡◌, ℕ}
-use Rattle.std.proofs.Math.Option.{Option, none, some}
+use Rattle.std.specs.Prelude.{Option, None, Some}
 use Rattle.model.specs.Book.{Book, Grid}
 use Rattle.dayfile.specs.Layout.{book_of, sheet_of}
 use Rattle.dayfile.specs.Table.{Line, Refusal, line, first_of, read_lines}
@@ -10,8 +10,8 @@ pub data Outcome (A : Type 0) : Type 0 where
   answer : A → Outcome A
 
 abbrev pub unless : {A : Type 0} → Option Refusal → A → Outcome A
-unless (some q) x = turned_away q
-unless none x = answer x
+unless (Some q) x = turned_away q
+unless None x = answer x
 
 -- down the lines: the refusal of the first that holds, and where none does the answer
 abbrev pub outcome : {A : Type 0} → List Line → A → Outcome A
@@ -24,13 +24,13 @@ read_file f = outcome (read_lines f) (book_of f, sheet_of f)
 -- no line holds
 abbrev pub NoneHolds : List Line → Type 0
 NoneHolds [] = Unit {0}
-NoneHolds (l ∷ ls) = (l.place ≡ none) × NoneHolds ls
+NoneHolds (l ∷ ls) = (l.place ≡ None) × NoneHolds ls
 
 -- of the lines the first that holds is the one with the refusal's number, and it gives the refusal's offset
 pub record FirstHolds (ls : List Line) (q : Refusal) : Type 0 where
   pub before : List Line
   pub after : List Line
-  pub split : ls ≡ before ++ (line q.number (some q.at) ∷ after)
+  pub split : ls ≡ before ++ (line q.number (Some q.at) ∷ after)
   pub passed : NoneHolds before
 
 -- the contract of a call that goes down these lines of the table, answers o and leaves `after` in its buffer: it refuses exactly with the

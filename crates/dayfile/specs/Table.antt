@@ -3,7 +3,7 @@
 -- The comments are the table's own words: the condition, and the offset given.
 use Rattle.std.specs.Prelude.{Bool, true, false, not, cond, ◌&&◌, ◌||◌, List, [], ◌∷◌, ◌++◌, ℕ, zero, suc, ◌+◌, ◌-◌, ◌*◌, ◌%◌, leb, ltb}
 use Rattle.std.specs.Prelude.{eqb, length}
-use Rattle.std.proofs.Math.Option.{Option, none, some}
+use Rattle.std.specs.Prelude.{Option, None, Some}
 use Rattle.fairness.specs.Sums.{sum}
 use Rattle.model.specs.Lowest.{lowest, when, or_else, and_then, is_some}
 use Rattle.model.specs.Book.{Book, seats, balances_of, weights_of, is_idle}
@@ -17,7 +17,7 @@ within low high x = leb low x && leb x high
 
 -- the offset of what was found
 abbrev pub offset : (ℕ → ℕ) → Option ℕ → Option ℕ
-offset at found = and_then found (λ i. some (at i))
+offset at found = and_then found (λ i. Some (at i))
 
 -- the first entry that is not right, by the offset of one of its fields
 abbrev pub wrong_entry : (ℕ → ℕ) → (List ℕ → ℕ → Bool) → List ℕ → Option ℕ
@@ -226,12 +226,12 @@ abbrev pub refuse : ℕ → ℕ → Refusal
 refuse n p = record { number = n; at = p }
 
 abbrev pub or_refuse : ℕ → Option ℕ → Option Refusal → Option Refusal
-or_refuse n (some p) next = some (refuse n p)
-or_refuse n none next = next
+or_refuse n (Some p) next = Some (refuse n p)
+or_refuse n None next = next
 
 -- checks run down the lines: the first that holds is the refusal
 abbrev pub first_of : List Line → Option Refusal
-first_of [] = none
+first_of [] = None
 first_of (l ∷ ls) = or_refuse l.number l.place (first_of ls)
 
 -- ---- the lines, by where they are checked
@@ -289,7 +289,7 @@ better_lines f g = sheet_lines f ++ (sheet_lines g ++ pair_lines f g)
 
 -- the length of the file that the planner writes: the book's with a sheet, and its caps stand here for any sheet
 unfoldable pub planned_length : Book → ℕ
-planned_length b = length (file_of b (some b.caps))
+planned_length b = length (file_of b (Some b.caps))
 
 -- the planner's but for its buffer, on a file: the forecast's
 abbrev pub forecast_lines : List ℕ → List Line

@@ -8,7 +8,7 @@ ghost use Rattle.sheet.specs.Sheets.{grid_of};
 ghost use Rattle.dayfile.specs.Table.{within, right_after, line, first_of, buffer_lines};
 ghost use Rattle.dayfile.specs.Memory.{found, refused};
 
-use sheet::{Caps, Sheet};
+use sheet::{Grid, Sheet};
 
 // The last kind that is known.
 pub const KNOWN: usize = 7;
@@ -67,7 +67,7 @@ pub struct Day {
 
 impl Day {
     // A book with these caps, and a sheet or its absence.
-    pub fn new(book: Book, caps: Caps, has_sheet: bool, sheet: Caps) -> Day
+    pub fn new(book: Book, caps: Grid, has_sheet: bool, sheet: Grid) -> Day
         ensures { (result.book ≡ book) × (grid_of result.caps ≡ caps) × (result.has_sheet ≡ has_sheet) × (grid_of result.sheet ≡ sheet) }
     {
         Day {

@@ -2,7 +2,7 @@
 use mathlib.Core.Path.{◌≡◌, refl, sym, subst, ◌∙◌}
 use mathlib.Core.List.{List, []}
 use mathlib.Core.Logic.{◌⊎◌, inl, inr}
-use mathlib.Core.Option.{none}
+use Rattle.std.specs.Prelude.{None}
 use Prim.Native.Nat.{ℕ, ◌+◌, ◌≤◌}
 use native.Mathlib.Omega.{arith}
 use lib.ListN.{length}
@@ -56,16 +56,16 @@ handed-back f g part h = (
 
 -- ---- the lists
 
-marker-free : (f : List ℕ) → first_of (sheet_lines f) ≡ none → NoneHolds (marker_lines f)
+marker-free : (f : List ℕ) → first_of (sheet_lines f) ≡ None → NoneHolds (marker_lines f)
 unfolding sheet_lines
 marker-free f passed = none-holds (marker_lines f) (none-parts (read_lines f) (marker_lines f) passed).1
 
-sound-of : (f : List ℕ) → first_of (sheet_lines f) ≡ none → Sound f
+sound-of : (f : List ℕ) → first_of (sheet_lines f) ≡ None → Sound f
 unfolding sheet_lines
 sound-of f passed = sound f (none-parts (read_lines f) (marker_lines f) passed).0
 
 -- a file with a lawful sheet, and what the marker says of it
-marked-of : (f before after : List ℕ) (r : Marking) → first_of (sheet_lines f) ≡ none → moves_room ≤ length before →
+marked-of : (f before after : List ℕ) (r : Marking) → first_of (sheet_lines f) ≡ None → moves_room ≤ length before →
     Marks f before after r →
     Marked f (book_of f) (marked_sheet f) before after r
 unfolding sheet_lines read_file
@@ -78,7 +78,7 @@ marked-of f before after r passed long marks =
       marks = marks;
     }
 
-sheet-of : (f : List ℕ) → first_of (sheet_lines f) ≡ none → SheetOf (book_of f) (marked_sheet f) × Lawful (book_of f) (marked_sheet f)
+sheet-of : (f : List ℕ) → first_of (sheet_lines f) ≡ None → SheetOf (book_of f) (marked_sheet f) × Lawful (book_of f) (marked_sheet f)
 sheet-of f passed = (accepted-sheet f (marker-free f passed), accepted-lawful f (marker-free f passed))
 
 -- where a sheet passes, so does another of its book whose list is not lower
@@ -97,7 +97,7 @@ passes-too b s t shape lawful xs top same not-above not-below = go (same-higher-
     go (inr (inr e)) = absurd (not-above e)
 
 -- the same of two files
-module _ (h k : List ℕ) (lawful-h : first_of (sheet_lines h) ≡ none) (lawful-k : first_of (sheet_lines k) ≡ none)
+module _ (h k : List ℕ) (lawful-h : first_of (sheet_lines h) ≡ None) (lawful-k : first_of (sheet_lines k) ≡ None)
     (one : SameParts (book_of h) (book_of k)) (not_lower : Higher NoHigher (list_of k) (list_of h) → ⊥) where
   abbrev back : SameParts (book_of k) (book_of h)
   back = parts-back (book_of h) (book_of k) one
@@ -137,14 +137,14 @@ not-above : (h : List ℕ) → Higher NoHigher (list_of h) (list_of h) → ⊥
 not-above h p = higher-not-lower (instance_of (book_of h)) (cell (marked_sheet h)) (cell (marked_sheet h)) p p
 
 module _ (f g : List ℕ) (side : Side) (c : ChosenOf f g side) where
-  parts : (first_of (sheet_lines f) ≡ none) × ((first_of (sheet_lines g) ≡ none) × SameParts (book_of f) (book_of g))
+  parts : (first_of (sheet_lines f) ≡ None) × ((first_of (sheet_lines g) ≡ None) × SameParts (book_of f) (book_of g))
   unfolding better_lines pair_lines
   parts =
       let all = none-parts (sheet_lines f) _ (none-first-of (better_lines f g) c.free) in
       let rest = none-parts (sheet_lines g) (pair_lines f g) all.1 in
       (all.0, (rest.0, one-book f g (none-holds (pair_lines f g) rest.1).0))
 
-  lawful-on : (any : Side) → first_of (sheet_lines (file_on any f g)) ≡ none
+  lawful-on : (any : Side) → first_of (sheet_lines (file_on any f g)) ≡ None
   lawful-on first = parts.0
   lawful-on second = parts.1.0
 

@@ -2,7 +2,7 @@
 use mathlib.Core.Path.{◌≡◌, refl, sym, ap, subst, ◌∙◌}
 use mathlib.Core.List.{List}
 use mathlib.Core.Logic.{inl, inr, ⊎_elim, ◌↔◌}
-use mathlib.Core.Option.{none}
+use Rattle.std.specs.Prelude.{None}
 use Prim.Native.Nat.{ℕ, ◌≤◌}
 use native.Mathlib.Omega.{arith}
 use lib.ListN.{length, take}
@@ -103,7 +103,7 @@ module _ (file before after : List ℕ) (n : ℕ) (plans : Plans file before aft
   pub the-planned : take n after ≡ planner.the_file file before after (Whole n) plans planned-free
   the-planned =
       let sheet = planner.planned file before after (Whole n) plans planned-free in
-      let size = answered none (length (planner.the_file file before after (Whole n) plans planned-free)) n
+      let size = answered None (length (planner.the_file file before after (Whole n) plans planned-free)) n
       (sym (planner.told-length file before after (Whole n) plans planned-free)) in
       ap (take n) sheet.bytes ∙ taken _ before n (sym size.1)
 

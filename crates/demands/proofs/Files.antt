@@ -1,7 +1,7 @@
 -- Files written read back the same, and an accepted file written again has the same bytes. Assumes nothing.
 use mathlib.Core.Path.{◌≡◌, refl, sym, ap, ap₂, ◌∙◌}
 use mathlib.Core.List.{List, ◌++◌}
-use mathlib.Core.Option.{none}
+use Rattle.std.specs.Prelude.{None}
 use Prim.Native.Nat.{ℕ, ◌≤◌}
 use native.Mathlib.Omega.{arith}
 use lib.ListN.{length, take, drop}
@@ -34,7 +34,7 @@ reads_back d before end n h =
     ap read_file file ∙ memory-reads-back d (length before) told.0
 
 -- where the reader's lines are free, so are the writer's on the same file, if the buffer is long enough
-write-free : (f : List ℕ) (room : ℕ) → first_of (read_lines f) ≡ none → length f ≤ room → first_of (write_lines f room) ≡ none
+write-free : (f : List ℕ) (room : ℕ) → first_of (read_lines f) ≡ None → length f ≤ room → first_of (write_lines f room) ≡ None
 unfolding read_lines length_lines write_lines
 write-free f room free long =
     let rest = (none-parts (contents_lines f) (length_lines f ++ (value_lines f ++ option_lines f)) free).1 in
@@ -50,7 +50,7 @@ whole_of (Whole m) n e = ap Whole cc
 whole_of (Refused m p) n e = absurd (let z : ◌≡◌ {A = ℕ} 0 1 = cc in omega arith)
 
 module _ (f : List ℕ) (bytes : Bytes f) (accepted : NoneHolds (read_lines f)) (r : Reading) (h : Reads f r) where
-  free : first_of (read_lines f) ≡ none
+  free : first_of (read_lines f) ≡ None
   free = none-first-of (read_lines f) accepted
 
   -- what is in memory is what stands in the file
@@ -63,7 +63,7 @@ module _ (f : List ℕ) (bytes : Bytes f) (accepted : NoneHolds (read_lines f)) 
   pub same_bytes : (before end : List ℕ) (w : Written) → length f ≤ length before → WritesDay r.day before end w →
       (w ≡ Whole (length f)) × (end ≡ front f before)
   same_bytes before end w long writes =
-      let none_here : first_of (write_lines (file_in r.day) (length before)) ≡ none =
+      let none_here : first_of (write_lines (file_in r.day) (length before)) ≡ None =
       rw the-file (write-free f (length before) free long) in
       let gives = tells-answer writes none_here in (
         whole_of w (length f) (gives.1.0 ∙ ap answer (gives.1.1.0 ∙ ap length the-file)),

@@ -2,7 +2,7 @@
 use mathlib.Core.Path.{◌≡◌, refl, sym, ap, subst, ◌∙◌}
 use mathlib.Core.Bool.{false}
 use mathlib.Core.List.{List}
-use mathlib.Core.Option.{Option, none, some}
+use Rattle.std.specs.Prelude.{Option, None, Some}
 use Prim.Native.Nat.{ℕ, ◌≤◌, ◌<◌}
 use native.Mathlib.Decide.{dec_lt}
 use native.Mathlib.Omega.{arith}
@@ -32,7 +32,7 @@ use Rattle.demands.proofs.Standard as standard
 
 module _ (file before after : List ℕ) (r : Foretold) (n : ℕ) (h : Forecasts file r) (plans : Plans file before after (Whole n)) where
   -- no line of the forecast's holds
-  free : first_of (forecast_lines file) ≡ none
+  free : first_of (forecast_lines file) ≡ None
   unfolding plan_lines
   free =
       (none-parts (forecast_lines file) (buffer_lines (length before) (planned_length (book_of file)))
@@ -46,7 +46,7 @@ module _ (file before after : List ℕ) (r : Foretold) (n : ℕ) (h : Forecasts 
   bytes =
       let none-hold = planned-free file before after n plans in
       ap length (the-planned file before after n plans)
-      ∙ (answered none _ n (sym (planner.told-length file before after (Whole n) plans none-hold))).1
+      ∙ (answered None _ n (sym (planner.told-length file before after (Whole n) plans none-hold))).1
 
   pub told_ahead : ToldAhead (book_of file) n after r
   told_ahead =
@@ -70,15 +70,15 @@ unfolding read_lines contents_lines length_lines value_lines option_lines idle_l
 none-16 file = refl
 
 -- what line 16 asks for
-needed : (room need k : ℕ) → first_of (buffer_lines room need) ≡ some (refuse 16 k) → k ≡ need
+needed : (room need k : ℕ) → first_of (buffer_lines room need) ≡ Some (refuse 16 k) → k ≡ need
 needed room need k e = go (dec_lt room need)
   where
     go : Dec (room < need) → k ≡ need
     go (yes l) =
-        let h : some (refuse 16 k) ≡ some (refuse 16 need) = sym e ∙ room-short room need l in
+        let h : Some (refuse 16 k) ≡ Some (refuse 16 need) = sym e ∙ room-short room need l in
         let same : refuse 16 k ≡ refuse 16 need = cc in ap (λ (q : Refusal). q.at) same
     go (no d) =
-        let h : none ≡ some (refuse 16 k) = sym (room-enough room need (omega arith)) ∙ e in
+        let h : None ≡ Some (refuse 16 k) = sym (room-enough room need (omega arith)) ∙ e in
         absurd (let z : ◌≡◌ {A = ℕ} 0 1 = cc in omega arith)
 
 pub asks : (file before after : List ℕ) (r : Foretold) (need : ℕ) → Forecasts file r → Plans file before after (Refused 16 need) →
@@ -86,15 +86,15 @@ pub asks : (file before after : List ℕ) (r : Foretold) (need : ℕ) → Foreca
 unfolding plan_lines
 asks file before after r need h plans = go (first_of (forecast_lines file)) refl
   where
-    first : first_of (plan_lines file (length before)) ≡ some (refuse 16 need)
+    first : first_of (plan_lines file (length before)) ≡ Some (refuse 16 need)
     first = refusal-first plans (refuse 16 need) refl
 
     go : (o : Option Refusal) → first_of (forecast_lines file) ≡ o → need ≡ r.length
-    go none e =
+    go None e =
         needed (length before) (planned_length (book_of file)) need (sym (on-after (forecast_lines file) _ e) ∙ first)
         ∙ sym (length-told file r h e)
-    go (some q) e =
-        let same : some q ≡ some (refuse 16 need) = sym (stop-in (forecast_lines file) _ q e) ∙ first in
+    go (Some q) e =
+        let same : Some q ≡ Some (refuse 16 need) = sym (stop-in (forecast_lines file) _ q e) ∙ first in
         absurd (unnumbered 16 (forecast_lines file) q (none-16 file) e cc)
 
 -- ---- the forecast's refusal, and its answer
@@ -108,7 +108,7 @@ same_refusal file before after r w q h plans e =
 pub room_suffices : (file before after : List ℕ) (r : Foretold) (w : Written) (x : Figures) → Forecasts file r →
     Plans file before after w → foretold r ≡ answer x → r.length ≤ length before → w ≡ Whole r.length
 room_suffices file before after r w x h plans e long =
-    let free : first_of (forecast_lines file) ≡ none = (answer-none h.defined x e).0 in
+    let free : first_of (forecast_lines file) ≡ None = (answer-none h.defined x e).0 in
     let size = length-told file r h free in
     standard.whole file (none-holds (forecast_lines file) free) before after w (subst (λ (k : ℕ). k ≤ length before) size long) plans
     ∙ ap Whole (sym size)
@@ -117,9 +117,9 @@ pub too_short : (file before after : List ℕ) (r : Foretold) (w : Written) (x :
     Plans file before after w → foretold r ≡ answer x → length before < r.length → written w ≡ turned_away (refuse 16 r.length)
 unfolding plan_lines
 too_short file before after r w x h plans e less =
-    let free : first_of (forecast_lines file) ≡ none = (answer-none h.defined x e).0 in
+    let free : first_of (forecast_lines file) ≡ None = (answer-none h.defined x e).0 in
     let size = length-told file r h free in
     (tells-refusal plans (refuse 16 r.length)
     (on-after (forecast_lines file) _ free
     ∙ room-short (length before) (planned_length (book_of file)) (subst (λ (k : ℕ). length before < k) size less)
-    ∙ ap (λ (k : ℕ). some (refuse 16 k)) (sym size))).0
+    ∙ ap (λ (k : ℕ). Some (refuse 16 k)) (sym size))).0

@@ -2,7 +2,7 @@
 use mathlib.Core.Path.{◌≡◌, refl, sym, ap, subst, ◌∙◌}
 use mathlib.Core.List.{List}
 use mathlib.Core.Logic.{◌⊎◌, inl, inr}
-use mathlib.Core.Option.{Option, none, some}
+use Rattle.std.specs.Prelude.{Option, None, Some}
 use Prim.Native.Nat.{ℕ, ◌+◌, ◌*◌, ◌≤◌, ◌<◌}
 use lib.ListN.{length, get_or}
 use Rattle.model.specs.Book.{Book, Grid, NoneIdle, seats, is_idle}
@@ -57,7 +57,7 @@ either b = go (lowest-cases (seats b) (is_idle b))
 -- ---- an accepted file and its book
 
 module _ (file : List ℕ) (b : Book) (s : Option Grid) (accepted : read_file file ≡ answer (b, s)) where
-  says : (first_of (read_lines file) ≡ none) × (◌≡◌ {A = Book × Option Grid} (book_of file, sheet_of file) (b, s))
+  says : (first_of (read_lines file) ≡ None) × (◌≡◌ {A = Book × Option Grid} (book_of file, sheet_of file) (b, s))
   unfolding read_file
   says = answered (first_of (read_lines file)) (book_of file, sheet_of file) (b, s) accepted
 
@@ -66,7 +66,7 @@ module _ (file : List ℕ) (b : Book) (s : Option Grid) (accepted : read_file fi
 
   -- no line of the forecast's holds where no seat is idle
   module _ (none_idle : NoneIdle b) where
-    free : first_of (forecast_lines file) ≡ none
+    free : first_of (forecast_lines file) ≡ None
     free = forecast-free file says.0 (subst NoneIdle (sym the-book) none_idle)
 
     pub plans : (before after : List ℕ) (r : Written) → planned_length b ≤ length before → Plans file before after r →
@@ -85,7 +85,7 @@ module _ (file : List ℕ) (b : Book) (i : ℕ) (w : WithIdle file b i) where
   same : book_of file ≡ b
   same = the-book file b w.sheet w.accepted
 
-  first : first_of (forecast_lines file) ≡ some (refuse 22 (start file 0 + 2 * i))
+  first : first_of (forecast_lines file) ≡ Some (refuse 22 (start file 0 + 2 * i))
   first =
       let h : LowestIdle (book_of file) i = subst (λ (x : Book). LowestIdle x i) (sym same) w.seat in
       forecast-idle file (says file b w.sheet w.accepted).0 i h.of_book h.idle h.lowest
@@ -112,7 +112,7 @@ pub reader_first : (file : List ℕ) (q : Refusal) → read_file file ≡ turned
     × ((r : Foretold) → Forecasts file r → foretold r ≡ turned_away q)
 unfolding read_file plan_lines
 reader_first file q e =
-    let first : first_of (read_lines file) ≡ some q = away (first_of (read_lines file)) _ q e in
+    let first : first_of (read_lines file) ≡ Some q = away (first_of (read_lines file)) _ q e in
     let here = stop-in (read_lines file) (idle_lines file) q first in (
       λ before after r plans. (tells-refusal plans _ (stop-in (forecast_lines file) _ _ here)).0,
       λ r h. (tells-refusal h.defined _ here).0,

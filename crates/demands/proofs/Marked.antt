@@ -1,7 +1,7 @@
 -- A file with a settled sheet gets mark 4. Assumes nothing.
 use mathlib.Core.Path.{◌≡◌, ap, ◌∙◌}
 use mathlib.Core.List.{List}
-use mathlib.Core.Option.{Option, some}
+use Rattle.std.specs.Prelude.{Option, Some}
 use Prim.Native.Nat.{ℕ, ◌≤◌}
 use lib.ListN.{length}
 use Rattle.fairness.specs.Exchange.{Settled}
@@ -18,7 +18,7 @@ use Rattle.marker.specs.Marking.{marked_sheet, mark_file, results, Marks}
 use Rattle.lawful.proofs.Taken.{book-is, sheet-in, sheet-shape, none-hold}
 use Rattle.marker.proofs.Theorems.{marks-says}
 
-module _ (f : List ℕ) (b : Book) (s : Grid) (read : read_file f ≡ answer (b, some s)) (done : Settled (instance_of b) (cell s)) where
+module _ (f : List ℕ) (b : Book) (s : Grid) (read : read_file f ≡ answer (b, Some s)) (done : Settled (instance_of b) (cell s)) where
   settled_here : Settled (instance_of (book_of f)) (cell (marked_sheet f))
   settled_here = rw (book-is f b s read, sheet-in f b s read) done
 

@@ -1,7 +1,7 @@
 -- The planner writes the same bytes to every buffer that is long enough. Assumes nothing.
 use mathlib.Core.Path.{◌≡◌, sym, ap, subst, ◌∙◌}
 use mathlib.Core.List.{List}
-use mathlib.Core.Option.{none, some}
+use Rattle.std.specs.Prelude.{None, Some}
 use Prim.Native.Nat.{ℕ, ◌≤◌}
 use lib.ListN.{length, take}
 use Rattle.model.specs.Book.{Grid}
@@ -26,7 +26,7 @@ module _ (file : List ℕ) (taken : NoneHolds (forecast_lines file)) where
 
   module _ (before after : List ℕ) (r : Written) (long : planned_length (book_of file) ≤ length before) (plans : Plans file before after r)
     where
-      free : first_of (plan_lines file (length before)) ≡ none
+      free : first_of (plan_lines file (length before)) ≡ None
       unfolding plan_lines
       free =
           on-after (forecast_lines file) (buffer_lines (length before) n) (none-first-of (forecast_lines file) taken)
@@ -37,12 +37,12 @@ module _ (file : List ℕ) (taken : NoneHolds (forecast_lines file)) where
 
       -- the file with the book's standard sheet
       standard-file : (s : Grid) → StandardSheet (book_of file) s →
-          take (planned_length (book_of file)) after ≡ file_of (book_of file) (some s)
+          take (planned_length (book_of file)) after ≡ file_of (book_of file) (Some s)
       standard-file s h =
           let p = subst (λ (x : Written). Plans file before after x) whole plans in
           let here = planner.planned file before after (Whole n) p (planned-free file before after n p) in
           the-planned file before after n p
-          ∙ ap (λ (g : Grid). file_of (book_of file) (some g)) (model.standard-one (book_of file) here.sheet s here.standard h)
+          ∙ ap (λ (g : Grid). file_of (book_of file) (Some g)) (model.standard-one (book_of file) here.sheet s here.standard h)
 
   pub same_plan : (before after before' after' : List ℕ) (r r' : Written) →
       planned_length (book_of file) ≤ length before → planned_length (book_of file) ≤ length before' →

@@ -3,7 +3,7 @@
 -- `Fulfils`, and the forecast's `Forecasts`. Behind them stands what the better of two, the standard sheet, wanted totals, the forecast and
 -- idle seats mean to their reader. Proved in proofs/Theorems.antt.
 use Rattle.std.specs.Prelude.{◌≡◌, List, [], ◌↔◌, ◌⊎◌, ℕ, min, ◌+◌, ◌*◌, ◌≤◌, ◌<◌, length, get_or, take, replicate}
-use Rattle.std.proofs.Math.Option.{Option, some}
+use Rattle.std.specs.Prelude.{Option, Some}
 use Rattle.std.proofs.Math.Decide.{ℕ_discrete}
 use Rattle.fairness.specs.Sums.{sum, over}
 use Rattle.fairness.specs.Instance.{Instance, Sheet, Wasteful, Feasible, placed, group_capacity}
@@ -111,7 +111,7 @@ pub record Demand2 : Type 0 where
 
 -- an accepted file with a lawful sheet, and what the marker answers with a buffer that is long enough
 pub record Marked (file : List ℕ) (b : Book) (s : Grid) (before after : List ℕ) (r : Marking) : Type 0 where
-  pub accepted : read_file file ≡ answer (b, some s)
+  pub accepted : read_file file ≡ answer (b, Some s)
   pub lawful : Lawful b s
   pub long : moves_room ≤ length before
   pub marks : Marks file before after r
@@ -127,7 +127,7 @@ pub record Improves (b : Book) (s : Grid) (n : ℕ) (buffer : List ℕ) : Type 0
 -- all settled sheets of the book have its totals, and of them all it is the standard one
 pub record PlannedFile (b : Book) (n : ℕ) (buffer : List ℕ) : Type 0 where
   pub sheet : Grid
-  pub reads_back : read_file (take n buffer) ≡ answer (b, some sheet)
+  pub reads_back : read_file (take n buffer) ≡ answer (b, Some sheet)
   pub lawful : Lawful b sheet
   pub highest : HighestList b (profile_of b sheet)
   pub ordered : Tied (instance_of b) (cell sheet) → ⊥
@@ -227,7 +227,7 @@ pub record SheetOrGroup : Type 0 where
 -- the sheet places in each window
 pub record ToldAhead (b : Book) (n : ℕ) (buffer : List ℕ) (r : Foretold) : Type 0 where
   pub sheet : Grid
-  pub reads_back : read_file (take n buffer) ≡ answer (b, some sheet)
+  pub reads_back : read_file (take n buffer) ≡ answer (b, Some sheet)
   pub answer_is : n ≡ r.length
   pub length_is : length (take n buffer) ≡ r.length
   pub placed_are : (j : ℕ) → j < windows b → placed (instance_of b) (cell sheet) j ≡ get_or r.placed j 0

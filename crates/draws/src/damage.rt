@@ -7,7 +7,7 @@ use dayfile::{Book, Day};
 use oracle::Small;
 use oracle::memory::{book_of, grid_of};
 use oracle::paths::byte;
-use sheet::Caps;
+use sheet::Grid;
 
 // A byte, if there is one at that offset.
 fn set(file: &mut [u8], at: usize, value: u8) {
@@ -261,7 +261,7 @@ fn damage_book(state: &mut u32, s: Small) -> Book {
 }
 
 // Caps of which one may be out of its range.
-fn damage_caps(state: &mut u32, s: Small) -> Caps {
+fn damage_caps(state: &mut u32, s: Small) -> Grid {
     let mut cells = s.caps;
     if below(state, 4) == 0 {
         let k = below(state, 12) as usize;

@@ -2,7 +2,7 @@
 use crate::{below, draw_cap, draw_row, draw_seats, draw_weights};
 use dayfile::{Book, Day};
 use oracle::idle::all_zero;
-use sheet::Caps;
+use sheet::Grid;
 
 // The caps of a seat, 0 in a third of the windows. Where they are 0 in all of them, one is 1: no seat is idle by chance.
 fn draw_seat(state: &mut u32, most: u16) -> [u16; 24] {
@@ -15,7 +15,7 @@ fn draw_seat(state: &mut u32, most: u16) -> [u16; 24] {
 }
 
 // For each seat its caps.
-fn draw_caps(state: &mut u32, most: u16) -> Caps {
+fn draw_caps(state: &mut u32, most: u16) -> Grid {
     let mut caps = [[0u16; 24]; 32];
     for i in 0..32usize {
         let row = draw_seat(state, most);
@@ -25,14 +25,14 @@ fn draw_caps(state: &mut u32, most: u16) -> Caps {
 }
 
 // The caps, where a seat drawn at random has none.
-fn draw_idle(state: &mut u32, mut caps: Caps) -> Caps {
+fn draw_idle(state: &mut u32, mut caps: Grid) -> Grid {
     let i = below(state, 32) as usize;
     caps[i] = [0u16; 24];
     caps
 }
 
 // The caps, where in a sixteenth of the cases one seat has none, and in another one two have none.
-fn draw_some_idle(state: &mut u32, caps: Caps) -> Caps {
+fn draw_some_idle(state: &mut u32, caps: Grid) -> Grid {
     let way = below(state, 16);
     if 1 < way {
         return caps;

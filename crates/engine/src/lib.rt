@@ -10,11 +10,11 @@ ghost use Rattle.instance.specs.Terms.{instance_in, Told, Small};
 use fill::fill;
 use instance::Terms;
 use settle::settle;
-use sheet::Caps;
+use sheet::Grid;
 use start::even_out;
 
 // A settled grid, from any feasible one of these terms.
-pub fn settled_from(grid: Caps, t: Terms, caps: &Caps) -> Caps
+pub fn settled_from(grid: Grid, t: Terms, caps: &Grid) -> Grid
     requires small { Small t caps.now }
     requires feasible { Feasible (instance_in t caps.now) (cell grid) }
     ensures { (I : Instance) → Told I t caps.now → Settled I (cell result) }
@@ -27,7 +27,7 @@ pub fn settled_from(grid: Caps, t: Terms, caps: &Caps) -> Caps
 }
 
 // A settled grid of these terms.
-pub fn settled(t: Terms, caps: &Caps) -> Caps
+pub fn settled(t: Terms, caps: &Grid) -> Grid
     requires { Small t caps.now }
     ensures { (I : Instance) → Told I t caps.now → Settled I (cell result) }
 {

@@ -70,10 +70,10 @@ module _ (I : Instance) (S : Sheet) (scores : Scores) (s : Scored I S scores) wh
         go ns p (no h) = omega (arith, nearest.counted)
 
     pub nobody : NoDonor kind scores graph seats → Exchange I S (test_of kind I S) → ⊥
-    nobody none x = go x.moves x.path
+    nobody None x = go x.moves x.path
       where
         go : (ms : List Move) → Path I S x.receiver x.donor ms → ⊥
         go [] p = test-apart kind I S x.receiver (ap (test_of kind I S x.receiver) p.linked ∙ x.wanted)
         go (m ∷ ms) p =
             let h : x.receiver < seats = omega (arith, p.linked.0, p.possible.0.in_taker) in
-            none x.receiver x.donor h (donor-of x.receiver x.donor (m ∷ ms) h p x.wanted)
+            None x.receiver x.donor h (donor-of x.receiver x.donor (m ∷ ms) h p x.wanted)

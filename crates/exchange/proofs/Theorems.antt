@@ -1,7 +1,7 @@
 -- What callers cite: the search in memory finds what the rules on lists say. Assumes nothing.
 use mathlib.Core.Path.{◌≡◌}
 use mathlib.Core.Bool.{Bool, false}
-use mathlib.Core.Option.{none, some}
+use Rattle.std.specs.Prelude.{None, Some}
 use Prim.Native.Nat.{ℕ}
 use native.Mathlib.Omega.{arith}
 use lib.ListN.{length}
@@ -30,9 +30,9 @@ module _ (b : Book) (s : Grid) where
 
   -- the answers of the search on lists that go with each kind
   abbrev pub OnLists : Kind → Found → Type 0
-  OnLists None f = (search b s improving ≡ none) × (search b s tying ≡ none)
-  OnLists Improving f = search b s improving ≡ some f
-  OnLists WronglyTied f = (search b s improving ≡ none) × (search b s tying ≡ some f)
+  OnLists None f = (search b s improving ≡ None) × (search b s tying ≡ None)
+  OnLists Improving f = search b s improving ≡ Some f
+  OnLists WronglyTied f = (search b s improving ≡ None) × (search b s tying ≡ Some f)
 
   improving-apart : (g : ℕ) → improving g g ≡ false
   improving-apart g = not-true _ (improves-apart (instance_of b) (cell s) g)

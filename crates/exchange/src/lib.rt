@@ -16,7 +16,7 @@ use paths::ExchangePath;
 use reach::Graph;
 use receiver::Scores;
 use search::find;
-use sheet::{Caps, row_total};
+use sheet::{Grid, row_total};
 
 // The windows in which a row has less than another.
 pub fn below(a: &[u16; 24], b: &[u16; 24], windows: usize) -> u32
@@ -48,7 +48,7 @@ pub fn with_holder(holders: [u32; 24], cells: &[u16; 24], windows: usize, seat: 
 }
 
 // Who can take a credit from whom on a sheet.
-pub fn graph_of(grid: &Caps, caps: &Caps, t: Terms) -> Graph
+pub fn graph_of(grid: &Grid, caps: &Grid, t: Terms) -> Graph
     requires { (t.seats ≤ 32) × (t.windows ≤ 24) }
     ensures { Shown (instance_in t caps.now) (cell grid.now) result }
 {
@@ -65,7 +65,7 @@ pub fn graph_of(grid: &Caps, caps: &Caps, t: Terms) -> Graph
 }
 
 // An exchange path that improves, and where there is none one that ties wrongly.
-pub fn find_path(grid: &Caps, caps: &Caps, t: Terms) -> ExchangePath
+pub fn find_path(grid: &Grid, caps: &Grid, t: Terms) -> ExchangePath
     requires small { Small t caps.now }
     requires feasible { Feasible (instance_in t caps.now) (cell grid.now) }
     ensures writable { Writable result }

@@ -51,7 +51,7 @@ module _ (n j : ℕ) (caps : Grid) (supply : ℕ) (g : Grid) where
           | no q ↦ omega (arith, wrote.seats i j q, f.within i l)
         ];
         count = omega (arith, f.count, column-here n (cell r) _ k j _ wrote hk);
-        full = λ i l some. elim (ℕ_discrete i k) [
+        full = λ i l Some. elim (ℕ_discrete i k) [
           | yes q ↦ rw q (omega (arith, wrote.here))
           | no q ↦ omega (arith, wrote.seats i j q, f.full i (omega arith) (omega arith))
         ];

@@ -9,7 +9,7 @@ ghost use Rattle.instance.specs.Terms.{instance_in};
 ghost use Rattle.fill.specs.Fills.{FeasibleAt, Handed, Filled, Keeps, Passes};
 
 use instance::Terms;
-use sheet::{Caps, Move};
+use sheet::{Grid, Move};
 
 pub fn lesser(a: u16, b: u16) -> u16
     ensures { result ≡ min a b }
@@ -25,7 +25,7 @@ pub fn room(cell: u16, cap: u16) -> u16
 }
 
 // As many credits as can move from a giver to a taker in a window: the giver has them, and the taker has room for them.
-pub fn passes(grid: &Caps, caps: &Caps, step: Move) -> u16
+pub fn passes(grid: &Grid, caps: &Grid, step: Move) -> u16
     requires { (step.window < 24) × ((step.giver < 32) × (step.taker < 32)) }
     ensures { Passes caps.now grid.now step result }
 {
@@ -63,7 +63,7 @@ pub struct Size {
 
 // Moves the credits asked for, or as many as the step lets through. A step outside the book does nothing. So whoever asks, what is filled
 // stays filled.
-pub fn shift(grid: &mut Caps, caps: &Caps, size: Size, step: Move, amount: u16)
+pub fn shift(grid: &mut Grid, caps: &Grid, size: Size, step: Move, amount: u16)
     requires { (size.seats ≤ 32) × (size.windows ≤ 24) }
     ensures { Keeps size.seats size.windows caps.now grid.old grid.new }
 {
@@ -85,7 +85,7 @@ pub fn shift(grid: &mut Caps, caps: &Caps, size: Size, step: Move, amount: u16)
 }
 
 // What is left of a window's supply.
-fn left_in(grid: &Caps, seats: usize, window: usize, supply: u16) -> u16
+fn left_in(grid: &Grid, seats: usize, window: usize, supply: u16) -> u16
     requires seats_bound { (seats ≤ 32) × (window < 24) }
     requires window_bound { sum seats (λ i. cell grid.now i window) ≤ supply }
     ensures { sum seats (λ i. cell grid.now i window) + result ≡ supply }
@@ -98,7 +98,7 @@ fn left_in(grid: &Caps, seats: usize, window: usize, supply: u16) -> u16
 }
 
 // Hands out what is left of a window's supply, seat by seat up to each cap.
-fn fill_window(grid: &mut Caps, caps: &Caps, seats: usize, window: usize, supply: u16)
+fn fill_window(grid: &mut Grid, caps: &Grid, seats: usize, window: usize, supply: u16)
     requires seats_bound { (seats ≤ 32) × (window < 24) }
     requires shaped { Shaped 32 24 grid.old }
     requires feasible_at { FeasibleAt seats window caps.now supply grid.old }
@@ -114,7 +114,7 @@ fn fill_window(grid: &mut Caps, caps: &Caps, seats: usize, window: usize, supply
 }
 
 // Hands out all free credits of a feasible grid.
-pub fn fill(grid: &mut Caps, caps: &Caps, t: Terms)
+pub fn fill(grid: &mut Grid, caps: &Grid, t: Terms)
     requires seats_bound { (t.seats ≤ 32) × (t.windows ≤ 24) }
     requires shaped { Shaped 32 24 grid.old }
     requires feasible { Feasible (instance_in t caps.now) (cell grid.old) }

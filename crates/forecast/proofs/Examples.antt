@@ -1,6 +1,6 @@
 -- Two of paper 01's books, by the definitions: K8, where supplies are the lesser, and K10, where the cap is.
 use mathlib.Core.List.{List, [], ◌∷◌}
-use mathlib.Core.Option.{none}
+use Rattle.std.specs.Prelude.{None}
 use mathlib.Core.Path.{◌≡◌, refl}
 use Prim.Native.Nat.{ℕ}
 use lib.ListN.{replicate}
@@ -14,7 +14,7 @@ use Rattle.forecast.specs.Forecasting.{figures_of}
 
 abbrev book : List ℕ → List ℕ → Grid → Book
 book classes supplies caps =
-    record { classes = classes; supplies = supplies; caps = caps; first = none; balances = none; weights = none }
+    record { classes = classes; supplies = supplies; caps = caps; first = None; balances = None; weights = None }
 
 abbrev k8 : Book
 k8 = book (1 ∷ 1 ∷ 1 ∷ []) (1 ∷ 3 ∷ []) ((1 ∷ 0 ∷ []) ∷ (1 ∷ 2 ∷ []) ∷ (0 ∷ 3 ∷ []) ∷ [])

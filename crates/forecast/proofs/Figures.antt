@@ -2,7 +2,7 @@
 use mathlib.Core.Path.{◌≡◌, refl, sym, ap, ap₂, ◌∙◌}
 use mathlib.Core.Bool.{true}
 use mathlib.Core.List.{List}
-use mathlib.Core.Option.{none, some}
+use Rattle.std.specs.Prelude.{None, Some}
 use Prim.Native.Nat.{ℕ, min, ◌≤◌, ◌<◌}
 use native.Mathlib.Nat.{le_refl}
 use native.Mathlib.Decide.{dec_lt}
@@ -71,12 +71,12 @@ made n xs = record { length = n; placed = xs }
 
 module _ (f : List ℕ) where
   -- a line holds
-  pub forecast-refused : (r : Foretold) (q : Refusal) → first_of (forecast_lines f) ≡ some q → foretold r ≡ turned_away q →
+  pub forecast-refused : (r : Foretold) (q : Refusal) → first_of (forecast_lines f) ≡ Some q → foretold r ≡ turned_away q →
       (r.length ≡ 0) × (r.placed ≡ replicate 24 0) → Forecasts f r
   forecast-refused r q e is zeros = record { defined = defined-refusal q e is refl; zeros = λ p h. zeros }
 
   -- none does: the figures are those of the file's book, which is in memory
-  pub forecast-told : first_of (forecast_lines f) ≡ none → (m : Memory.Book) (caps : Grid) → book_in m caps ≡ book_of f →
+  pub forecast-told : first_of (forecast_lines f) ≡ None → (m : Memory.Book) (caps : Grid) → book_in m caps ≡ book_of f →
       (n : ℕ) (xs : List ℕ) → n ≡ (figures_of (book_in m caps)).length → xs ≡ (figures_of (book_in m caps)).placed →
       Forecasts f (record { check = Sound; length = n; placed = xs })
   forecast-told free m caps same n xs long credits =
@@ -95,7 +95,7 @@ past n xs i l = go (dec_lt i n)
     go (yes h) = sized-at n xs i h ∙ get_or-eq_default xs 0 l
     go (no h) = get_or-eq_default (sized n xs) 0 (omega (arith, sized-length n xs))
 
-module _ (f : List ℕ) (r : Foretold) (h : Forecasts f r) (free : first_of (forecast_lines f) ≡ none) where
+module _ (f : List ℕ) (r : Foretold) (h : Forecasts f r) (free : first_of (forecast_lines f) ≡ None) where
   told : figures r ≡ figures_of (book_of f)
   told = let x = tells-answer h.defined free in (answered (refused r.check) (figures r) x.0 x.1.0).1 ∙ x.1.1
 

@@ -10,7 +10,7 @@ ghost use Rattle.forecast.specs.Numbers.{forecast_numbers};
 
 use dayfile::{Book, Check};
 use idle::check_idle;
-use sheet::{Caps, placed};
+use sheet::{Grid, placed};
 use store::file_length;
 
 // A refusal and zeros, or the two figures; of 24 windows those that the book does not have are 0.
@@ -40,7 +40,7 @@ fn lesser(supply: u16, caps: u32) -> u32
 }
 
 // The credits that will be placed in each window of a book that is in memory.
-fn to_place(book: Book, caps: &Caps) -> [u32; 24]
+fn to_place(book: Book, caps: &Grid) -> [u32; 24]
     requires { (book.seats ≤ 32) × (book.windows ≤ 24) }
     ensures { result ≡ (figures_of (book_in book caps.now)).placed }
 {

@@ -2,7 +2,7 @@
 use mathlib.Core.Path.{◌≡◌, refl, sym, ap, ap₂, subst, ◌∙◌}
 use mathlib.Core.Bool.{true}
 use mathlib.Core.List.{List}
-use mathlib.Core.Option.{Option, none, some}
+use Rattle.std.specs.Prelude.{Option, None, Some}
 use Prim.Native.Nat.{ℕ, ◌*◌, ◌≤◌, ◌<◌}
 use native.Mathlib.Omega.{arith}
 use borrow.Author.Tests.{eq-eqb, ne_eqb}
@@ -35,26 +35,26 @@ use Rattle.fulfil.specs.Steps.{lent_lines}
 -- ---- the row and the buffer
 
 -- line 21, by the number of seats that was read
-pub row-right : (f row : List ℕ) (n : ℕ) → n ≡ seats_in f → length row ≡ 4 * n → none ≡ line21 f row
+pub row-right : (f row : List ℕ) (n : ℕ) → n ≡ seats_in f → length row ≡ 4 * n → None ≡ line21 f row
 unfolding line21
 row-right f row n e l = rw (eq-eqb (length row) (4 * seats_in f) (omega arith)) refl
 
-pub row-wrong : (f row : List ℕ) (n : ℕ) → n ≡ seats_in f → (length row ≡ 4 * n → ⊥) → some 0 ≡ line21 f row
+pub row-wrong : (f row : List ℕ) (n : ℕ) → n ≡ seats_in f → (length row ≡ 4 * n → ⊥) → Some 0 ≡ line21 f row
 unfolding line21
 row-wrong f row n e l = rw (ne_eqb (length row) (4 * seats_in f) (λ k. l (omega arith))) refl
 
 module _ (f row : List ℕ) (room : ℕ) where
-  pub lent_row : (p : ℕ) → line21 f row ≡ some p → some (refuse 21 p) ≡ first_of (lent_lines f row room)
+  pub lent_row : (p : ℕ) → line21 f row ≡ Some p → Some (refuse 21 p) ≡ first_of (lent_lines f row room)
   unfolding row_lines
   lent_row p e = rw e refl
 
-  pub lent-buffer : line21 f row ≡ none → (need : ℕ) → need ≡ body_length f → {x : Option Refusal} → x ≡ first_of (buffer_lines room need) →
+  pub lent-buffer : line21 f row ≡ None → (need : ℕ) → need ≡ body_length f → {x : Option Refusal} → x ≡ first_of (buffer_lines room need) →
       x ≡ first_of (lent_lines f row room)
   unfolding row_lines
   lent-buffer passed need need-is e = rw (passed, ← need-is) e
 
 -- no line of the two holds, so the buffer is long enough
-pub lent-room : (f row : List ℕ) (room : ℕ) → first_of (lent_lines f row room) ≡ none → body_length f ≤ room
+pub lent-room : (f row : List ℕ) (room : ℕ) → first_of (lent_lines f row room) ≡ None → body_length f ≤ room
 lent-room f row room e = room-none room (body_length f) (none-parts (row_lines f row) (buffer_lines room (body_length f)) e).1
 
 -- ---- a grid in memory that grants the wants of a book in memory is a sheet that gives them
@@ -75,8 +75,8 @@ module _ (m : Memory.Book) (caps grid : Grid) (wants : ℕ → ℕ) where
 pub record Asked (f row old : List ℕ) : Type 0 where
   pub reading : Reading
   pub reads : Reads f reading
-  pub free : first_of (read_lines f) ≡ none
-  pub lent : first_of (lent_lines f row (length old)) ≡ none
+  pub free : first_of (read_lines f) ≡ None
+  pub lent : first_of (lent_lines f row (length old)) ≡ None
   pub caps : Grid
   pub caps_are : caps ≡ grid_of reading.day.caps
   pub wants : List ℕ
@@ -84,12 +84,12 @@ pub record Asked (f row old : List ℕ) : Type 0 where
 
 module _ (f row old : List ℕ) where
   -- a line of the reader's holds
-  pub fulfil-refused : (n p : ℕ) → first_of (read_lines f) ≡ some (refuse n p) → Fulfils f row old old (Refused n p)
+  pub fulfil-refused : (n p : ℕ) → first_of (read_lines f) ≡ Some (refuse n p) → Fulfils f row old old (Refused n p)
   unfolding fulfil_lines
   fulfil-refused n p e = defined-refusal (refuse n p) (stop-in (read_lines f) _ (refuse n p) e) refl refl
 
   -- line 21 does, or line 16
-  pub lent-refused : first_of (read_lines f) ≡ none → (n p : ℕ) → first_of (lent_lines f row (length old)) ≡ some (refuse n p) →
+  pub lent-refused : first_of (read_lines f) ≡ None → (n p : ℕ) → first_of (lent_lines f row (length old)) ≡ Some (refuse n p) →
       Fulfils f row old old (Refused n p)
   unfolding fulfil_lines
   lent-refused free n p e = defined-refusal (refuse n p) (on-after (read_lines f) (lent_lines f row (length old)) free ∙ e) refl refl
@@ -107,7 +107,7 @@ module _ (f row old : List ℕ) where
     same : b ≡ book_of f
     same = ap (book_in m) q.caps_are ∙ (read-day f q.reading q.reads q.free).0
 
-    passed : first_of (fulfil_lines f row (length old)) ≡ none
+    passed : first_of (fulfil_lines f row (length old)) ≡ None
     unfolding fulfil_lines
     passed = on-after (read_lines f) (lent_lines f row (length old)) q.free ∙ q.lent
 

@@ -19,11 +19,11 @@ use exchange::graph_of;
 use instance::Terms;
 use masks::insert;
 use reach::reached;
-use sheet::Caps;
+use sheet::Grid;
 use wants::{aim, alone_totals, first_short, serve, totals, trim};
 
 // The first seat that alone wants more than it can get, as a group; 0 where there is none.
-fn alone_group(t: Terms, caps: &Caps, wants: [u32; 32]) -> u32
+fn alone_group(t: Terms, caps: &Grid, wants: [u32; 32]) -> u32
     requires { (t.seats ≤ 32) × (t.windows ≤ 24) }
     ensures { (I : Instance) → Told I t caps.now →
         IfGroup result (Overasks I (λ i. get_or wants i 0) result) (NoneAlone I (λ i. get_or wants i 0)) }
@@ -35,7 +35,7 @@ fn alone_group(t: Terms, caps: &Caps, wants: [u32; 32]) -> u32
 }
 
 // The seats that the first short one reaches; 0 where none is short.
-fn short_group(sheet: &Caps, caps: &Caps, t: Terms, wants: [u32; 32]) -> u32
+fn short_group(sheet: &Grid, caps: &Grid, t: Terms, wants: [u32; 32]) -> u32
     requires { (t.seats ≤ 32) × (t.windows ≤ 24) }
     ensures { (I : Instance) → Told I t caps.now →
         IfGroup result (Reaches I (cell sheet.now) (λ i. get_or wants i 0) result)
@@ -48,7 +48,7 @@ fn short_group(sheet: &Caps, caps: &Caps, t: Terms, wants: [u32; 32]) -> u32
 }
 
 // A lawful sheet on which no seat is short, or a group that wants more than it can get. A sheet that leaves a seat short is settled.
-fn settle_short(sheet: &mut Caps, caps: &Caps, t: Terms, wants: [u32; 32]) -> u32
+fn settle_short(sheet: &mut Grid, caps: &Grid, t: Terms, wants: [u32; 32]) -> u32
     requires small { Small t caps.now }
     requires feasible { Feasible (instance_in t caps.now) (cell sheet.old) }
     requires by_index { (i : ℕ) → i < t.seats → get_or wants i 0 ≤ most_total }
@@ -63,7 +63,7 @@ fn settle_short(sheet: &mut Caps, caps: &Caps, t: Terms, wants: [u32; 32]) -> u3
 }
 
 // A group that wants more than it can get; or 0, and then the sheet has just the wanted totals.
-pub fn grant(t: Terms, caps: &Caps, wants: [u32; 32], sheet: &mut Caps) -> u32
+pub fn grant(t: Terms, caps: &Grid, wants: [u32; 32], sheet: &mut Grid) -> u32
     requires { Small t caps.now }
     ensures { (I : Instance) → Told I t caps.now →
         IfGroup result (Overasks I (λ i. get_or wants i 0) result) (Grants I (λ i. get_or wants i 0) (cell sheet.new)) }

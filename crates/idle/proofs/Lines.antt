@@ -2,7 +2,7 @@
 use mathlib.Core.Path.{◌≡◌, refl, sym, ap, ◌∙◌}
 use mathlib.Core.Bool.{Bool, not}
 use mathlib.Core.List.{List, []}
-use mathlib.Core.Option.{Option, none, some}
+use Rattle.std.specs.Prelude.{Option, None, Some}
 use Prim.Native.Nat.{ℕ, ◌+◌, ◌*◌, ◌<◌}
 use native.Mathlib.Omega.{arith}
 use lib.Dec.{eqb}
@@ -40,15 +40,15 @@ module _ (f : List ℕ) (m : Memory.Book) (caps : Grid) (same : book_in m caps �
       ∙ ap (λ (b : Book). lowest (seats b) (is_idle b)) same
 
   -- a seat that was found is one of the book's, and line 22 tells its class
-  pub idle-below : (i : ℕ) → lowest m.seats (zero caps m.windows) ≡ some i → i < 32
+  pub idle-below : (i : ℕ) → lowest m.seats (zero caps m.windows) ≡ Some i → i < 32
   idle-below i e = omega (arith, (lowest-some m.seats _ i e).below, (range-in m caps fit).0)
 
-  pub idle-told : (i : ℕ) → lowest m.seats (zero caps m.windows) ≡ some i → (at : ℕ) → at ≡ start f 0 →
-      some (refuse 22 (at + 2 * i)) ≡ first_of (idle_lines f)
+  pub idle-told : (i : ℕ) → lowest m.seats (zero caps m.windows) ≡ Some i → (at : ℕ) → at ≡ start f 0 →
+      Some (refuse 22 (at + 2 * i)) ≡ first_of (idle_lines f)
   unfolding idle_lines line22
   idle-told i e at q = rw (q, sym found-is ∙ e) refl
 
   -- none was found, and it holds nowhere
-  pub none_idle : lowest m.seats (zero caps m.windows) ≡ none → none ≡ first_of (idle_lines f)
+  pub none_idle : lowest m.seats (zero caps m.windows) ≡ None → None ≡ first_of (idle_lines f)
   unfolding idle_lines line22
   none_idle e = rw (sym found-is ∙ e) refl

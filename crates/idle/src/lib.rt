@@ -11,7 +11,7 @@ ghost use Rattle.dayfile.specs.Memory.{book_in, found, refused};
 
 use dayfile::{Book, Check, Found};
 use fields::start;
-use sheet::Caps;
+use sheet::Grid;
 
 // Whether the first caps of a row are all zero.
 fn all_zero(row: &[u16; 24], windows: usize) -> bool
@@ -27,7 +27,7 @@ fn all_zero(row: &[u16; 24], windows: usize) -> bool
 }
 
 // The lowest of the first rows whose first caps are all zero.
-fn idle_seat(caps: &Caps, seats: usize, windows: usize) -> Found
+fn idle_seat(caps: &Grid, seats: usize, windows: usize) -> Found
     requires { (seats ≤ 32) × (windows ≤ 24) }
     ensures { found result ≡ lowest seats (λ i. all_zero windows (get_or caps.now i [])) }
 {
@@ -40,7 +40,7 @@ fn idle_seat(caps: &Caps, seats: usize, windows: usize) -> Found
 }
 
 // Line 22, of a file whose book is in memory: the class of the lowest idle seat.
-pub fn check_idle(file: &[u8], book: Book, caps: &Caps) -> Check
+pub fn check_idle(file: &[u8], book: Book, caps: &Grid) -> Check
     requires { (book_in book caps.now ≡ book_of file.now) × Fit (book_in book caps.now) }
     ensures { refused result ≡ first_of (idle_lines file.now) }
 {

@@ -2,7 +2,7 @@
 use mathlib.Core.Path.{◌≡◌, refl, ap, ap₂, sym, ◌∙◌}
 use mathlib.Core.Bool.{Bool, true, false, cond}
 use mathlib.Core.List.{List, []}
-use mathlib.Core.Option.{Option, none, some}
+use Rattle.std.specs.Prelude.{Option, None, Some}
 use Prim.Native.Nat.{ℕ, ◌-◌, ◌≤◌, ◌<◌}
 use native.Mathlib.Omega.{arith}
 use lib.ListN.{get_or, replicate}
@@ -75,8 +75,8 @@ module _ (m : Memory.Book) (caps : Grid) (fit : Fit (book_in m caps)) where
       omega (arith, balance-in m caps i l, go (book_in m caps).balances fit.balances_fit (omega (arith, seats-in m caps)))
     where
       go : (o : Option (List ℕ)) → BalancesFit (seats (book_in m caps)) o → i < seats (book_in m caps) → get_or (value_or o []) i 0 ≤ 50000
-      go none h k = omega arith
-      go (some xs) h k = h.1 i k
+      go None h k = omega arith
+      go (Some xs) h k = h.1 i k
 
   weight-ranged : (k : ℕ) → k < 8 → (1 ≤ get_or (weights_in_force m) k 0) × (get_or (weights_in_force m) k 0 ≤ 1000)
   weight-ranged k l =

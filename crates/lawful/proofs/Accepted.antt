@@ -2,7 +2,7 @@
 use mathlib.Core.Path.{◌≡◌, refl, ap, subst, ◌∙◌}
 use mathlib.Core.Bool.{Bool, not}
 use mathlib.Core.List.{List}
-use mathlib.Core.Option.{Option, none, some}
+use Rattle.std.specs.Prelude.{Option, None, Some}
 use Prim.Native.Nat.{ℕ, ◌+◌, ◌*◌, ◌/◌, ◌%◌, ◌≤◌, ◌<◌}
 use native.Mathlib.Nat.{mul-zero, mod-lt, div-lt_iff_lt-mul, div-add-mod'}
 use native.Mathlib.Decide.{dec_lt}
@@ -25,9 +25,9 @@ use Rattle.dayfile.proofs.Fields.{fields-length, fields-at, grid-cell, grid-shap
 use Rattle.dayfile.specs.Layout.{marked_sheet}
 
 -- what was found, if anything was
-some_of : {A : Type 0} (o : Option A) → when {A = ℕ} (not (is_some o)) 0 ≡ none → (x : A) × (o ≡ some x)
-some_of (some x) e = (x, refl)
-some_of none e = absurd (let z : ◌≡◌ {A = ℕ} 0 1 = cc in omega arith)
+some_of : {A : Type 0} (o : Option A) → when {A = ℕ} (not (is_some o)) 0 ≡ None → (x : A) × (o ≡ Some x)
+some_of (Some x) e = (x, refl)
+some_of None e = absurd (let z : ◌≡◌ {A = ℕ} 0 1 = cc in omega arith)
 
 module _ (f : List ℕ) where
   -- the book has as many seats and windows as the file tells
@@ -40,7 +40,7 @@ module _ (f : List ℕ) where
   windows-in = fields-length f (start f 1) (windows_in f)
 
   -- the file has an entry of kind 4
-  module _ (e : ℕ) (entry : entry_of f 4 ≡ some e) where
+  module _ (e : ℕ) (entry : entry_of f 4 ≡ Some e) where
     the-sheet : marked_sheet f ≡ grid_at f (start f e) (seats_in f) (windows_in f)
     unfolding sheet_of
     the-sheet = rw entry refl
@@ -72,7 +72,7 @@ module _ (f : List ℕ) where
     over : ℕ → Bool
     over j = ltb (field f (cell_at f 1 j)) (placed_in f e j)
 
-    pub lines-lawful : line14 f ≡ none → line15 f ≡ none → Lawful (book_of f) (marked_sheet f)
+    pub lines-lawful : line14 f ≡ None → line15 f ≡ None → Lawful (book_of f) (marked_sheet f)
     unfolding instance_of line14 line15 above over
     lines-lawful h14 h15 =
         record {
@@ -92,7 +92,7 @@ module _ (f : List ℕ) where
             rw (seats-in, supply-at j lj, placed_at j lj)
             (ltb-false _ _ (lowest-none (windows_in f) over (offset-none (cell_at f 1) _ (rw entry at h15)) j lj))
 
-    pub lawful-lines : Lawful (book_of f) (marked_sheet f) → (line14 f ≡ none) × (line15 f ≡ none)
+    pub lawful-lines : Lawful (book_of f) (marked_sheet f) → (line14 f ≡ None) × (line15 f ≡ None)
     unfolding instance_of line14 line15 above over
     lawful-lines h = (
       rw entry (ap (offset (cell_at f e)) (lowest-fails (seats_in f * windows_in f) above (λ k lk. le-ltb _ _ (below k lk)))),
@@ -118,11 +118,11 @@ module _ (f : List ℕ) where
                 (rw (sheet-cell i j li lj, cap-cell i j li lj) at (h.within i j (rw seats-in li) (rw windows-in lj)))
 
   module _ (none-holds-here : NoneHolds (marker_lines f)) where
-    pub has-entry : (e : ℕ) × (entry_of f 4 ≡ some e)
+    pub has-entry : (e : ℕ) × (entry_of f 4 ≡ Some e)
     unfolding marker_lines line13
     has-entry = some_of (entry_of f 4) none-holds-here.0
 
-    pub has-sheet-of : (s : Grid) × (sheet_of f ≡ some s)
+    pub has-sheet-of : (s : Grid) × (sheet_of f ≡ Some s)
     unfolding sheet_of
     has-sheet-of =
         let e = has-entry.0 in

@@ -2,7 +2,7 @@
 use mathlib.Core.Path.{◌≡◌, refl, sym, ap, ◌∙◌}
 use mathlib.Core.Bool.{Bool, true}
 use mathlib.Core.List.{List}
-use mathlib.Core.Option.{none, some}
+use Rattle.std.specs.Prelude.{None, Some}
 use Prim.Native.Nat.{ℕ, ◌≤◌, ◌<◌}
 use native.Mathlib.Omega.{arith}
 use lib.ListN.{get_or}
@@ -47,19 +47,19 @@ lawful-in m caps sheet given within sums fits =
 
 -- from what was read to the file
 module _ (f : List ℕ) (r : Reading) (reads : Reads f r) (sound : r.check ≡ Sound) where
-  free : first_of (read_lines f) ≡ none
+  free : first_of (read_lines f) ≡ None
   free = read-sound f r reads sound
 
   pub in-range : (r.day.book.seats ≤ 32) × (r.day.book.windows ≤ 24)
   in-range = range-in r.day.book (grid_of r.day.caps) (read_fits f r reads free)
 
   pub none-lawful : r.day.has_sheet ≡ true → Lawful (day_book r.day) (cells_in r.day.book (grid_of r.day.sheet)) →
-      first_of (sheet_lines f) ≡ none
+      first_of (sheet_lines f) ≡ None
   unfolding read_file
   none-lawful there lawful =
       let day = read-day f r reads free in
-      let sheet : some (cells_in r.day.book (grid_of r.day.sheet)) ≡ day_sheet r.day =
+      let sheet : Some (cells_in r.day.book (grid_of r.day.sheet)) ≡ day_sheet r.day =
       ap (λ (t : Bool). sheet_in r.day.book t (grid_of r.day.sheet)) (sym there) in
-      let read : read_file f ≡ answer (day_book r.day, some (cells_in r.day.book (grid_of r.day.sheet))) =
+      let read : read_file f ≡ answer (day_book r.day, Some (cells_in r.day.book (grid_of r.day.sheet))) =
       rw (free, sheet ∙ day.1, day.0) refl in
       sheet-free f _ _ read lawful

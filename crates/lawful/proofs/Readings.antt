@@ -2,7 +2,7 @@
 use mathlib.Core.Path.{◌≡◌, sym, ap, ◌∙◌}
 use mathlib.Core.Bool.{Bool, true, false}
 use mathlib.Core.List.{List, []}
-use mathlib.Core.Option.{Option, none, some}
+use Rattle.std.specs.Prelude.{Option, None, Some}
 use Prim.Native.Nat.{ℕ}
 use native.Mathlib.Omega.{arith}
 use Rattle.model.specs.Lowest.{value_or}
@@ -21,13 +21,13 @@ use Rattle.dayfile.proofs.Readings.{read-day}
 use Rattle.lawful.proofs.Accepted.{accepted-lawful, has-sheet-of}
 
 -- the sheet that is in memory, where there is one
-cells_of : (m : Memory.Book) (there : Bool) (sheet s : Grid) → sheet_in m there sheet ≡ some s → cells_in m sheet ≡ s
+cells_of : (m : Memory.Book) (there : Bool) (sheet s : Grid) → sheet_in m there sheet ≡ Some s → cells_in m sheet ≡ s
 cells_of m true sheet s e = ap (λ (o : Option Grid). value_or o []) e
 cells_of m false sheet s e = absurd (let z : ◌≡◌ {A = ℕ} 0 1 = cc in omega arith)
 
 -- what was read of a file with a lawful sheet: its book and its sheet
-module _ (f : List ℕ) (r : Reading) (reads : Reads f r) (passed : first_of (sheet_lines f) ≡ none) where
-  sheet-parts : (first_of (read_lines f) ≡ none) × (first_of (marker_lines f) ≡ none)
+module _ (f : List ℕ) (r : Reading) (reads : Reads f r) (passed : first_of (sheet_lines f) ≡ None) where
+  sheet-parts : (first_of (read_lines f) ≡ None) × (first_of (marker_lines f) ≡ None)
   unfolding sheet_lines
   sheet-parts = none-parts (read_lines f) (marker_lines f) passed
 

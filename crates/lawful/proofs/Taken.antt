@@ -2,7 +2,7 @@
 use mathlib.Core.Path.{◌≡◌, refl, ap, ◌∙◌}
 use mathlib.Core.Bool.{not}
 use mathlib.Core.List.{List, []}
-use mathlib.Core.Option.{Option, none, some}
+use Rattle.std.specs.Prelude.{Option, None, Some}
 use Prim.Native.Nat.{ℕ, ◌≤◌}
 use native.Mathlib.Omega.{arith}
 use Rattle.model.specs.Lowest.{when, is_some, and_then, value_or}
@@ -17,25 +17,25 @@ use Rattle.dayfile.specs.Layout.{marked_sheet}
 use Rattle.lawful.proofs.Accepted.{entry-sheet, lawful-lines}
 
 -- a sheet stands in an entry of kind 4
-sheet-entry : (o : Option ℕ) (g : ℕ → Grid) (s : Grid) → and_then o (λ e. some (g e)) ≡ some s → (e : ℕ) × (o ≡ some e)
-sheet-entry (some e) g s h = (e, refl)
-sheet-entry none g s h = absurd (let z : ◌≡◌ {A = ℕ} 0 1 = cc in omega arith)
+sheet-entry : (o : Option ℕ) (g : ℕ → Grid) (s : Grid) → and_then o (λ e. Some (g e)) ≡ Some s → (e : ℕ) × (o ≡ Some e)
+sheet-entry (Some e) g s h = (e, refl)
+sheet-entry None g s h = absurd (let z : ◌≡◌ {A = ℕ} 0 1 = cc in omega arith)
 
-module _ (f : List ℕ) (b : Book) (s : Grid) (read : read_file f ≡ answer (b, some s)) where
-  says : (first_of (read_lines f) ≡ none) × ◌≡◌ {A = Book × Option Grid} (book_of f, sheet_of f) (b, some s)
+module _ (f : List ℕ) (b : Book) (s : Grid) (read : read_file f ≡ answer (b, Some s)) where
+  says : (first_of (read_lines f) ≡ None) × ◌≡◌ {A = Book × Option Grid} (book_of f, sheet_of f) (b, Some s)
   unfolding read_file
-  says = answered (first_of (read_lines f)) (book_of f, sheet_of f) (b, some s) read
+  says = answered (first_of (read_lines f)) (book_of f, sheet_of f) (b, Some s) read
 
   pub book-is : book_of f ≡ b
   book-is = ap (λ (p : Book × Option Grid). p.0) says.1
 
-  sheet_is : sheet_of f ≡ some s
+  sheet_is : sheet_of f ≡ Some s
   sheet_is = ap (λ (p : Book × Option Grid). p.1) says.1
 
   pub sheet-in : marked_sheet f ≡ s
   sheet-in = ap (λ (o : Option Grid). value_or o []) sheet_is
 
-  entry : (e : ℕ) × (entry_of f 4 ≡ some e)
+  entry : (e : ℕ) × (entry_of f 4 ≡ Some e)
   unfolding sheet_of
   entry = sheet-entry (entry_of f 4) (λ e. grid_at f (start f e) (seats_in f) (windows_in f)) s sheet_is
 
@@ -49,7 +49,7 @@ module _ (f : List ℕ) (b : Book) (s : Grid) (read : read_file f ≡ answer (b,
         let lines = lawful-lines f entry.0 entry.1 (rw (book-is, sheet-in) lawful) in
         (ap (λ (o : Option ℕ). when (not (is_some o)) 0) entry.1, (lines.0, (lines.1, tt)))
 
-    pub sheet-free : first_of (sheet_lines f) ≡ none
+    pub sheet-free : first_of (sheet_lines f) ≡ None
     unfolding sheet_lines
     sheet-free = on-after (read_lines f) (marker_lines f) says.0 ∙ none-first-of (marker_lines f) marker-free
 

@@ -1,7 +1,7 @@
 -- From what the marker says and writes to the listing's contract. Assumes nothing.
 use mathlib.Core.Path.{◌≡◌, refl, sym, ap, ◌∙◌}
 use mathlib.Core.List.{List, [], ◌++◌}
-use mathlib.Core.Option.{none}
+use Rattle.std.specs.Prelude.{None}
 use Prim.Native.Nat.{ℕ, ◌≤◌, ◌<◌}
 use native.Mathlib.Omega.{arith}
 use lib.ListN.{length}
@@ -78,11 +78,11 @@ module _ (file moves written : List ℕ) (r : Marking) (room : length moves ≡ 
         go (answer m) is same = record { mark = m; is = is; result = cc }
 
     -- no line of the marker's holds, and the mark is that of the rules
-    lines-passed : (first_of (mark_lines file moves_room) ≡ none) × (mark_of (book_of file) (marked_sheet file) ≡ told-mark.mark)
+    lines-passed : (first_of (mark_lines file moves_room) ≡ None) × (mark_of (book_of file) (marked_sheet file) ≡ told-mark.mark)
     unfolding mark_file
     lines-passed = answered (first_of (mark_lines file moves_room)) (mark_of (book_of file) (marked_sheet file)) told-mark.mark told-mark.is
 
-    passed : first_of (sheet_lines file) ≡ none
+    passed : first_of (sheet_lines file) ≡ None
     unfolding mark_lines
     passed = (none-parts (sheet_lines file) (buffer_lines moves_room moves_room) lines-passed.0).0
 

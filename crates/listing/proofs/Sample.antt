@@ -1,7 +1,7 @@
 -- Paper 01's sample: what `mark` prints for K8.
 use mathlib.Core.Path.{◌≡◌, refl}
 use mathlib.Core.List.{List, [], ◌∷◌, ◌++◌}
-use mathlib.Core.Option.{none}
+use Rattle.std.specs.Prelude.{None}
 use Rattle.fairness.specs.Sums.{sum}
 use Rattle.fairness.specs.Leximin.{table}
 use Rattle.fairness.specs.Exchange.{Move, improves, ties_wrongly, improves_at, ties_at}
@@ -20,9 +20,9 @@ book =
       classes = 1 ∷ 1 ∷ 1 ∷ [];
       supplies = 1 ∷ 3 ∷ [];
       caps = (1 ∷ 0 ∷ []) ∷ (1 ∷ 2 ∷ []) ∷ (0 ∷ 3 ∷ []) ∷ [];
-      first = none;
-      balances = none;
-      weights = none;
+      first = None;
+      balances = None;
+      weights = None;
     }
 
 abbrev sheet : Grid

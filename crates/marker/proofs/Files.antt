@@ -1,7 +1,7 @@
 -- From what was read of a file and its checks to the marker's contract. Assumes nothing.
 use mathlib.Core.Path.{◌≡◌, refl, ap, ◌∙◌}
 use mathlib.Core.List.{List}
-use mathlib.Core.Option.{none, some}
+use Rattle.std.specs.Prelude.{None, Some}
 use Prim.Native.Nat.{ℕ, ◌≤◌}
 use lib.ListN.{length}
 use Rattle.model.specs.Book.{Grid}
@@ -21,13 +21,13 @@ use Rattle.marks.specs.Steps.{MarkedAs, Markable}
 use Rattle.lawful.proofs.Readings.{book-read, fit-read, sheet-read, lawful-read}
 
 -- a refusal
-pub refused-marks : (f before : List ℕ) (n p : ℕ) → first_of (mark_lines f (length before)) ≡ some (refuse n p) →
+pub refused-marks : (f before : List ℕ) (n p : ℕ) → first_of (mark_lines f (length before)) ≡ Some (refuse n p) →
     Marks f before before (Refused n p)
 refused-marks f before n p e = defined-refusal (refuse n p) e refl refl
 
 -- no line holds
-module _ (f before : List ℕ) (passed : first_of (mark_lines f (length before)) ≡ none) where
-  parts : (first_of (sheet_lines f) ≡ none) × (first_of (buffer_lines (length before) moves_room) ≡ none)
+module _ (f before : List ℕ) (passed : first_of (mark_lines f (length before)) ≡ None) where
+  parts : (first_of (sheet_lines f) ≡ None) × (first_of (buffer_lines (length before) moves_room) ≡ None)
   unfolding mark_lines
   parts = none-parts (sheet_lines f) (buffer_lines (length before) moves_room) passed
 

@@ -3,7 +3,7 @@ use mathlib.Core.Path.{◌≡◌, refl, sym, ap, ap₂, ◌∙◌}
 use mathlib.Core.Bool.{true, true≢false}
 use mathlib.Core.Logic.{inl, inr, ⊎_elim, ◌↔◌}
 use mathlib.Core.List.{List}
-use mathlib.Core.Option.{Option, none, some}
+use Rattle.std.specs.Prelude.{Option, None, Some}
 use Prim.Native.Nat.{ℕ}
 use native.Mathlib.Omega.{arith}
 use lib.ListN.{length}
@@ -39,8 +39,8 @@ same-result x y e = cc
 
 -- the result of a mark, or the refusal
 results-of : (o : Option Refusal) (m : Mark) → results (unless o m) ≡ unless o (result_of m)
-results-of none m = refl
-results-of (some q) m = refl
+results-of None m = refl
+results-of (Some q) m = refl
 
 module _ (file before after : List ℕ) (r : Marking) where
   -- the contract in one line: the marker says what the rules say of the file
@@ -50,8 +50,8 @@ module _ (file before after : List ℕ) (r : Marking) where
     where
       go : (o : Option Refusal) → first_of (mark_lines file (length before)) ≡ o →
           told r ≡ results (unless o (mark_of (book_of file) (marked_sheet file)))
-      go (some q) e = (tells-refusal marks q e).0
-      go none e = let x = tells-answer marks e in x.1.0 ∙ ap answer x.1.1.0
+      go (Some q) e = (tells-refusal marks q e).0
+      go None e = let x = tells-answer marks e in x.1.0 ∙ ap answer x.1.1.0
 
   pub marks-buffer : Marks file before after r →
       BufferAfter (book_of file) (marked_sheet file) (mark_file file (length before)) before after
@@ -60,8 +60,8 @@ module _ (file before after : List ℕ) (r : Marking) where
     where
       go : (o : Option Refusal) → first_of (mark_lines file (length before)) ≡ o →
           BufferAfter (book_of file) (marked_sheet file) (unless o (mark_of (book_of file) (marked_sheet file))) before after
-      go (some q) e = (tells-refusal marks q e).1
-      go none e = (tells-answer marks e).1.1.1
+      go (Some q) e = (tells-refusal marks q e).1
+      go None e = (tells-answer marks e).1.1.1
 
   -- and back
   pub says-marks : told r ≡ results (mark_file file (length before)) →
@@ -74,7 +74,7 @@ module _ (file before after : List ℕ) (r : Marking) where
 
 module _ (file before after : List ℕ) (r : Marking) (marks : Marks file before after r) where
   module _ (none-hold : NoneHolds (mark_lines file (length before))) where
-    passed : first_of (mark_lines file (length before)) ≡ none
+    passed : first_of (mark_lines file (length before)) ≡ None
     passed = none-first-of (mark_lines file (length before)) none-hold
 
     right : (x : Result) × ((told r ≡ answer x) × ((x ≡ result_of (mark_of (book_of file) (marked_sheet file)))

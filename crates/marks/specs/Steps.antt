@@ -1,6 +1,6 @@
 -- What the parts of the marker answer.
 use Rattle.std.specs.Prelude.{◌≡◌, List, ℕ}
-use Rattle.std.proofs.Math.Option.{some}
+use Rattle.std.specs.Prelude.{Some}
 use Rattle.fairness.specs.Exchange.{improves_at, ties_at}
 use Rattle.model.specs.Lowest.{or_else, and_then, value_or}
 use Rattle.model.specs.Book.{Book, Grid, Lawful, cell, instance_of}
@@ -18,8 +18,8 @@ use Rattle.marks.specs.Buffer.{BufferAfter}
 unfoldable pub fair_mark : Book → Grid → Mark
 fair_mark b s =
     value_or
-    (or_else (and_then (search b s (improves_at (instance_of b) (cell s))) (λ f. some (improvable f)))
-    (and_then (search b s (ties_at (instance_of b) (cell s))) (λ f. some (tied f))))
+    (or_else (and_then (search b s (improves_at (instance_of b) (cell s))) (λ f. Some (improvable f)))
+    (and_then (search b s (ties_at (instance_of b) (cell s))) (λ f. Some (tied f))))
     settled
 
 -- the answer says the mark m, and the buffer holds what goes with it

@@ -16,13 +16,13 @@ use exchange::find_path;
 use instance::Terms;
 use moves::write_moves;
 use paths::Kind;
-use sheet::Caps;
+use sheet::Grid;
 use waste::{Waste, wasted};
 
 pub mod moves;
 
 // Marks 2 to 4, of a sheet that is not wasteful.
-fn mark_full(cells: &Caps, caps: &Caps, t: Terms, moves: &mut [u8]) -> Marking
+fn mark_full(cells: &Grid, caps: &Grid, t: Terms, moves: &mut [u8]) -> Marking
     requires small { Small t caps.now × Feasible (instance_in t caps.now) (model.cell cells.now) }
     requires moves_room_in_bounds { moves_room ≤ length moves.old }
     ensures { (b : model.Book) (s : model.Grid) → Told (model.instance_of b) t caps.now →
@@ -44,7 +44,7 @@ fn mark_full(cells: &Caps, caps: &Caps, t: Terms, moves: &mut [u8]) -> Marking
 }
 
 // The mark of a lawful sheet in memory.
-pub fn mark_sheet(book: Book, caps: Caps, cells: Caps, moves: &mut [u8]) -> Marking
+pub fn mark_sheet(book: Book, caps: Grid, cells: Grid, moves: &mut [u8]) -> Marking
     requires markable { Markable book caps cells }
     requires moves_room_in_bounds { moves_room ≤ length moves.old }
     ensures { MarkedAs (book_in book caps) (cells_in book cells) (mark_of (book_in book caps) (cells_in book cells))

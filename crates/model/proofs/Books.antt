@@ -1,7 +1,7 @@
 -- The tests of a book's sheets and of its seats mean what they say. Assumes nothing.
 use mathlib.Core.Path.{◌≡◌, refl, sym, ap}
 use mathlib.Core.Bool.{Bool, true, not, true≢false}
-use mathlib.Core.Option.{Option, none, some}
+use Rattle.std.specs.Prelude.{Option, None, Some}
 use mathlib.Core.Logic.{◌↔◌}
 use mathlib.Core.List.{[]}
 use Prim.Native.Nat.{ℕ}
@@ -20,9 +20,9 @@ use Rattle.model.proofs.Lowest.{Fails, lowest-none, lowest-fails}
 pub none_passes : (n : ℕ) (test : ℕ → Bool) → (not (is_some (lowest n test)) ≡ true) ↔ Fails n test
 none_passes n test = (λ e. lowest-none n test (at (lowest n test) e), λ f. ap (λ o. not (is_some o)) (lowest-fails n test f))
   where
-    at : (o : Option ℕ) → not (is_some o) ≡ true → o ≡ none
-    at none e = refl
-    at (some k) e = absurd (true≢false (sym e))
+    at : (o : Option ℕ) → not (is_some o) ≡ true → o ≡ None
+    at None e = refl
+    at (Some k) e = absurd (true≢false (sym e))
 
 pub sheet-test : (b : Book) (s : Grid) → (is_sheet b s ≡ true) ↔ SheetOf b s
 unfolding is_sheet
@@ -86,7 +86,7 @@ idle-test b i = (
     used j = not (eqb (cell b.caps i j) 0)
 
 -- no seat is idle
-pub none-idle-test : (b : Book) → (lowest (seats b) (is_idle b) ≡ none) ↔ NoneIdle b
+pub none-idle-test : (b : Book) → (lowest (seats b) (is_idle b) ≡ None) ↔ NoneIdle b
 none-idle-test b = (
   λ e i li h. true-not-false _ ((idle-test b i).1 h) (lowest-none (seats b) (is_idle b) e i li),
   λ h. lowest-fails (seats b) (is_idle b) (λ i li. tests.not-true _ (λ e. h i li ((idle-test b i).0 e))),

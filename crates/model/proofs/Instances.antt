@@ -2,7 +2,7 @@
 use mathlib.Core.Path.{◌≡◌, refl, sym, ◌∙◌, ap, fun_ext}
 use mathlib.Core.Bool.{Bool, ◌&&◌, ◌||◌}
 use mathlib.Core.List.{List, [], ◌∷◌}
-use mathlib.Core.Option.{Option, some}
+use Rattle.std.specs.Prelude.{Option, Some}
 use Prim.Native.Nat.{ℕ, zero, suc}
 use lib.Dec.{ltb}
 use Rattle.fairness.specs.Instance.{Instance, placed}
@@ -19,7 +19,7 @@ find_in n reach test =
     let donor : ℕ → Option ℕ = λ g. lowest n (λ l. member l (reach g n) && test g l) in
     and_then (lowest n (λ g. is_some (donor g)))
     (λ g. and_then (donor g)
-    (λ l. and_then (lowest n (λ r. member l (reach g r))) (λ r. some (record { receiver = g; donor = l; moves = r }))))
+    (λ l. and_then (lowest n (λ r. member l (reach g r))) (λ r. Some (record { receiver = g; donor = l; moves = r }))))
 
 module _ (I : Instance) (s : Grid) where
   -- the set, and every seat from which a member can take
@@ -39,9 +39,9 @@ module _ (I : Instance) (s : Grid) where
       let below : ℕ → Option ℕ = λ j. lowest I.seats (λ i. ltb (cell s i j) (I.cap i j)) in
       value_or
       (or_else (and_then (lowest I.windows (λ j. ltb (placed I (cell s) j) (I.supply j) && is_some (below j)))
-      (λ j. and_then (below j) (λ i. some (wasteful j i))))
-      (or_else (and_then (find (improves_at I (cell s))) (λ f. some (improvable f)))
-      (and_then (find (ties_at I (cell s))) (λ f. some (tied f)))))
+      (λ j. and_then (below j) (λ i. Some (wasteful j i))))
+      (or_else (and_then (find (improves_at I (cell s))) (λ f. Some (improvable f)))
+      (and_then (find (ties_at I (cell s))) (λ f. Some (tied f)))))
       settled
 
 module _ (b : Book) (s : Grid) where

@@ -2,7 +2,7 @@
 use mathlib.Core.Path.{◌≡◌, refl, sym, ◌∙◌, ap}
 use mathlib.Core.Bool.{Bool, true, false}
 use mathlib.Core.Logic.{◌⊎◌, inl, inr}
-use mathlib.Core.Option.{none, some}
+use Rattle.std.specs.Prelude.{None, Some}
 use Prim.Native.Nat.{ℕ, zero, suc, ◌<◌}
 use native.Mathlib.Decide.{ℕ_discrete}
 use native.Mathlib.Omega.{arith}
@@ -26,12 +26,12 @@ fails-suc n test f e i l =
       | no p ↦ f i (omega arith)
     ]
 
-pub lowest-fails : (n : ℕ) (test : ℕ → Bool) → Fails n test → lowest n test ≡ none
+pub lowest-fails : (n : ℕ) (test : ℕ → Bool) → Fails n test → lowest n test ≡ None
 unfolding lowest
 lowest-fails zero test f = refl
 lowest-fails (suc n) test f = rw (lowest-fails n test (λ i l. f i (omega arith)), f n (omega arith)) refl
 
-pub lowest-is : (n : ℕ) (test : ℕ → Bool) (k : ℕ) → Lowest n test k → lowest n test ≡ some k
+pub lowest-is : (n : ℕ) (test : ℕ → Bool) (k : ℕ) → Lowest n test k → lowest n test ≡ Some k
 unfolding lowest
 lowest-is zero test k h = absurd (omega (arith, h.below))
 lowest-is (suc n) test k h =
@@ -52,7 +52,7 @@ lowest-cases (suc n) test = go (lowest-cases n test) (test n) refl
     go (inr h) t e =
         inr (h.0, record { below = omega (arith, h.1.below); passes = h.1.passes; least = h.1.least })
 
-pub lowest-some : (n : ℕ) (test : ℕ → Bool) (k : ℕ) → lowest n test ≡ some k → Lowest n test k
+pub lowest-some : (n : ℕ) (test : ℕ → Bool) (k : ℕ) → lowest n test ≡ Some k → Lowest n test k
 lowest-some n test k e = go (lowest-cases n test)
   where
     go : Fails n test ⊎ ((i : ℕ) × Lowest n test i) → Lowest n test k
@@ -61,7 +61,7 @@ lowest-some n test k e = go (lowest-cases n test)
         let same : h.0 ≡ k = cc (lowest-is n test h.0 h.1) in
         rw same at h.1
 
-pub lowest-none : (n : ℕ) (test : ℕ → Bool) → lowest n test ≡ none → Fails n test
+pub lowest-none : (n : ℕ) (test : ℕ → Bool) → lowest n test ≡ None → Fails n test
 lowest-none n test e = go (lowest-cases n test)
   where
     go : Fails n test ⊎ ((i : ℕ) × Lowest n test i) → Fails n test

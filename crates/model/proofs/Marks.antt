@@ -2,7 +2,7 @@
 use mathlib.Core.Path.{◌≡◌, refl, sym, ◌∙◌}
 use mathlib.Core.Bool.{Bool, true, false, ◌&&◌}
 use mathlib.Core.Logic.{◌⊎◌, inl, inr, ◌↔◌}
-use mathlib.Core.Option.{none, some}
+use Rattle.std.specs.Prelude.{None, Some}
 use Prim.Native.Nat.{ℕ, ◌-◌, ◌≤◌, ◌<◌}
 use native.Mathlib.Nat.{lt_trans}
 use native.Mathlib.Decide.{dec_lt}
@@ -50,7 +50,7 @@ module _ (b : Book) (s : Grid) where
   )
 
   -- the lowest wasted window has a lowest seat
-  wasted-at : (j : ℕ) → Lowest (windows b) wastes j → (i : ℕ) × ((seat_below b s j ≡ some i) × Wasted b s j i)
+  wasted-at : (j : ℕ) → Lowest (windows b) wastes j → (i : ℕ) × ((seat_below b s j ≡ Some i) × Wasted b s j i)
   unfolding wastes seat_below below instance_of
   wasted-at j h =
       let both = (and-true _ _).0 h.passes in
@@ -78,7 +78,7 @@ module _ (b : Book) (s : Grid) where
   unfolding instance_of
   waste-of j i h = record { window = j; seat = i; in_window = h.window; in_seat = h.seat; left = h.left; room = h.room }
 
-  wasted-is : (j i : ℕ) → Wasted b s j i → (wasted_window b s ≡ some j) × (seat_below b s j ≡ some i)
+  wasted-is : (j i : ℕ) → Wasted b s j i → (wasted_window b s ≡ Some j) × (seat_below b s j ≡ Some i)
   unfolding wasted_window wastes seat_below below instance_of waste-of
   wasted-is j i h = (
     lowest-is (windows b) wastes j (record {
@@ -118,7 +118,7 @@ module _ (b : Book) (s : Grid) where
       go (inl fails) = inl (λ w. let at = wastes-at w in true-not-false _ at.1 (fails w.window at.0))
       go (inr low) = let found = wasted-at low.0 low.1 in inr (low.0, (found.0, found.1.1))
 
-  unwasted : (Wasteful (instance_of b) (cell s) → ⊥) → wasted_window b s ≡ none
+  unwasted : (Wasteful (instance_of b) (cell s) → ⊥) → wasted_window b s ≡ None
   unfolding wasted_window wastes
   unwasted q = lowest-fails (windows b) wastes (λ j lj. not-true _ (λ e. at j (lowest-cases (windows b) wastes) lj e))
     where

@@ -3,7 +3,7 @@ use mathlib.Core.Path.{◌≡◌, refl, sym, ap, ◌∙◌, subst}
 use mathlib.Core.Bool.{Bool, true, false, ◌&&◌}
 use mathlib.Core.Logic.{◌⊎◌, inl, inr, ◌↔◌}
 use mathlib.Core.List.{List, [], ◌∷◌}
-use mathlib.Core.Option.{none, some}
+use Rattle.std.specs.Prelude.{None, Some}
 use Prim.Native.Nat.{ℕ, ◌≤◌, ◌<◌}
 use native.Mathlib.Decide.{dec_lt}
 use native.Mathlib.Omega.{arith}
@@ -53,11 +53,11 @@ module _ (b : Book) (s : Grid) where
             (path-within (instance_of b) (cell s) g l p.0 p.1))
 
     -- `fewest` is the number of moves of a shortest path
-    pub fewest-means : (l r : ℕ) → (fewest b s g l ≡ some r) ↔ Shortest b s g l r
+    pub fewest-means : (l r : ℕ) → (fewest b s g l ≡ Some r) ↔ Shortest b s g l r
     unfolding fewest
     fewest-means l r = (to, from)
       where
-        to : fewest b s g l ≡ some r → Shortest b s g l r
+        to : fewest b s g l ≡ Some r → Shortest b s g l r
         to e =
             let low = lowest-some (seats b) (λ r. member l (layer b s g r)) r e in
             let never : (q : ℕ) → q < r → Within (instance_of b) (cell s) q g l → ⊥ =
@@ -78,7 +78,7 @@ module _ (b : Book) (s : Grid) where
                 go (yes l) = absurd (never l w)
                 go (no l) = omega arith
 
-        from : Shortest b s g l r → fewest b s g l ≡ some r
+        from : Shortest b s g l r → fewest b s g l ≡ Some r
         from h =
             lowest-is (seats b) (λ r. member l (layer b s g r)) r (record {
               below = omega (arith, path-few l h.moves h.path, h.count);
@@ -92,7 +92,7 @@ module _ (b : Book) (s : Grid) where
                 omega (arith, h.least p.0 p.1, p.2)
 
     -- a seat that is reached has a shortest path
-    pub reached-fewest : (l : ℕ) → In l (reached b s g) → (r : ℕ) × (fewest b s g l ≡ some r)
+    pub reached-fewest : (l : ℕ) → In l (reached b s g) → (r : ℕ) × (fewest b s g l ≡ Some r)
     unfolding fewest reached
     reached-fewest l i =
         let w = within-seats (instance_of b) (cell s) (seats b) g l ((of-seats g).0 lg) ((layer-within b s g lg (seats b) l).0 i) in
@@ -140,18 +140,18 @@ module _ (b : Book) (s : Grid) where
         let p = donor-path g lg found.0 found.1.passes in
         true-not-false _ p.1 (None-passes found.0 p.0.0 p.0.1))
 
-    search_is : (f : Found) → Picked b s test f → search b s test ≡ some f
+    search_is : (f : Found) → Picked b s test f → search b s test ≡ Some f
     unfolding search first_receiver donor_of wanted
     search_is f p =
         let g = f.receiver in
         let l = f.donor in
         let way = p.shortest.path in
-        let receiver_is : first_receiver b s test ≡ some g = lowest-is (seats b) (λ g. is_some (donor_of b s test g)) g (record {
+        let receiver_is : first_receiver b s test ≡ Some g = lowest-is (seats b) (λ g. is_some (donor_of b s test g)) g (record {
           below = p.seat;
           passes = donor-of g l p.shortest.moves p.seat way p.passes;
           least = λ h lh. no-donor h (omega (arith, p.seat)) (λ k ms q. p.first_receiver h k ms lh q);
         }) in
-        let donor_is : donor_of b s test g ≡ some l = lowest-is (seats b) (wanted g) l (record {
+        let donor_is : donor_of b s test g ≡ Some l = lowest-is (seats b) (wanted g) l (record {
           below = donor-seat g l p.seat (path-ends g l p.shortest.moves way);
           passes = (and-true _ _).1 ((reached-means g p.seat l).1 (p.shortest.moves, way), p.passes);
           least = λ k lk. not-true _ (λ e.
@@ -164,7 +164,7 @@ module _ (b : Book) (s : Grid) where
         donor-seat g l lg (inl q) = subst (λ (x : ℕ). x < seats b) q lg
         donor-seat g l lg (inr q) = q.1
 
-    search-fails : (Exchange (instance_of b) (cell s) test → ⊥) → search b s test ≡ none
+    search-fails : (Exchange (instance_of b) (cell s) test → ⊥) → search b s test ≡ None
     unfolding search first_receiver
     search-fails q = rw (lowest-fails (seats b) (λ g. is_some (donor_of b s test g)) fails) refl
       where
@@ -203,18 +203,18 @@ module _ (b : Book) (s : Grid) where
             )
 
     -- the search finds nothing exactly where no path passes
-    pub search-none : (search b s test ≡ none) ↔ (Exchange (instance_of b) (cell s) test → ⊥)
+    pub search-none : (search b s test ≡ None) ↔ (Exchange (instance_of b) (cell s) test → ⊥)
     search-none = (λ e. go e search-cases, search-fails)
       where
-        go : search b s test ≡ none → (Exchange (instance_of b) (cell s) test → ⊥) ⊎ ((f : Found) × Picked b s test f) →
+        go : search b s test ≡ None → (Exchange (instance_of b) (cell s) test → ⊥) ⊎ ((f : Found) × Picked b s test f) →
             Exchange (instance_of b) (cell s) test → ⊥
         go e (inl q) = q
         go e (inr p) = absurd (let z : ◌≡◌ {A = ℕ} 0 1 = cc (search_is p.0 p.1) in omega arith)
 
     -- the search finds what paper 01's rule picks
-    pub search-some : (f : Found) → (search b s test ≡ some f) ↔ Picked b s test f
+    pub search-some : (f : Found) → (search b s test ≡ Some f) ↔ Picked b s test f
     search-some f = (λ e. go e search-cases, search_is f)
       where
-        go : search b s test ≡ some f → (Exchange (instance_of b) (cell s) test → ⊥) ⊎ ((h : Found) × Picked b s test h) → Picked b s test f
+        go : search b s test ≡ Some f → (Exchange (instance_of b) (cell s) test → ⊥) ⊎ ((h : Found) × Picked b s test h) → Picked b s test f
         go e (inl q) = absurd (let z : ◌≡◌ {A = ℕ} 0 1 = cc (search-fails q) in omega arith)
         go e (inr p) = let same : p.0 ≡ f = cc (search_is p.0 p.1) in rw same at p.1

@@ -4,7 +4,7 @@ use mathlib.Core.Path.{◌≡◌, refl, sym, ◌∙◌, ap, fun_ext}
 use mathlib.Core.Bool.{true, true≢false}
 use mathlib.Core.Logic.{◌⊎◌, ◌↔◌}
 use mathlib.Core.List.{List}
-use mathlib.Core.Option.{Option, none, some}
+use Rattle.std.specs.Prelude.{Option, None, Some}
 use Prim.Native.Nat.{ℕ, ◌+◌, ◌-◌, ◌≤◌, ◌<◌}
 use lib.ListN.{get_or, replicate}
 use Rattle.lists.proofs.Arrays.{zeros-at}
@@ -242,7 +242,7 @@ module _ (b : Book) (s : Grid) where
   ties-by g l = refl
 
 -- balances that are missing are zeros: the same instance, and so the same lists, settled sheets and standard sheet
-pub missing-are-zeros : (b : Book) → instance_of (with_balances none b) ≡ instance_of (with_balances (some (replicate (seats b) 0)) b)
+pub missing-are-zeros : (b : Book) → instance_of (with_balances None b) ≡ instance_of (with_balances (Some (replicate (seats b) 0)) b)
 unfolding instance_of
 missing-are-zeros b =
     ap (λ (base : ℕ → ℕ). record {
@@ -256,27 +256,27 @@ missing-are-zeros b =
     }) (fun_ext (λ i. sym (zeros-at (seats b) i)))
 
 -- and every sheet has the same mark
-pub missing-same-mark : (b : Book) (s : Grid) → mark_of (with_balances none b) s
-    ≡ mark_of (with_balances (some (replicate (seats b) 0)) b) s
-missing-same-mark b s = same-mark (with_balances none b) (with_balances (some (replicate (seats b) 0)) b) (missing-are-zeros b) s
+pub missing-same-mark : (b : Book) (s : Grid) → mark_of (with_balances None b) s
+    ≡ mark_of (with_balances (Some (replicate (seats b) 0)) b) s
+missing-same-mark b s = same-mark (with_balances None b) (with_balances (Some (replicate (seats b) 0)) b) (missing-are-zeros b) s
 
 -- All theorems are of any table of weights, and paper 01's is a case of it: a book without weights of its own is the same instance as with
 -- paper 01's, so it has the same lists, settled sheets and standard sheet
-pub built-in-a-case : (b : Book) → instance_of (with_weights none b) ≡ instance_of (with_weights (some class_weights) b)
+pub built-in-a-case : (b : Book) → instance_of (with_weights None b) ≡ instance_of (with_weights (Some class_weights) b)
 unfolding instance_of
 built-in-a-case b = refl
 
 -- every sheet has the same mark
-pub built-in-same-mark : (b : Book) (s : Grid) → mark_of (with_weights none b) s ≡ mark_of (with_weights (some class_weights) b) s
-built-in-same-mark b s = same-mark (with_weights none b) (with_weights (some class_weights) b) (built-in-a-case b) s
+pub built-in-same-mark : (b : Book) (s : Grid) → mark_of (with_weights None b) s ≡ mark_of (with_weights (Some class_weights) b) s
+built-in-same-mark b s = same-mark (with_weights None b) (with_weights (Some class_weights) b) (built-in-a-case b) s
 
 -- and each seat has the weight that paper 01 gives its class
-pub built-in-weight : (b : Book) (i : ℕ) → (instance_of (with_weights none b)).weight i ≡ weight_of (get_or b.classes i 0)
+pub built-in-weight : (b : Book) (i : ℕ) → (instance_of (with_weights None b)).weight i ≡ weight_of (get_or b.classes i 0)
 unfolding instance_of
 built-in-weight b i = weight-built-in (get_or b.classes i 0)
 
 -- with weights of its own, a seat has the one that they give its class
 pub own-weight : (b : Book) (ws : List ℕ) (i : ℕ) → 1 ≤ get_or ws (get_or b.classes i 0 - 1) 1
-    → (instance_of (with_weights (some ws) b)).weight i ≡ get_or ws (get_or b.classes i 0 - 1) 1
+    → (instance_of (with_weights (Some ws) b)).weight i ≡ get_or ws (get_or b.classes i 0 - 1) 1
 unfolding instance_of
 own-weight b ws i l = weight-as ws (get_or b.classes i 0) l

@@ -1,7 +1,7 @@
 -- A book and a sheet as lists that hold the used entries alone, and what they are in the terms of the crate `fairness`.
 -- Seats and windows count from 0 here: seat i is paper 01's seat i + 1, window j its window j + 1.
 use Rattle.std.specs.Prelude.{◌≡◌, Bool, not, cond, ◌&&◌, List, [], ℕ, zero, suc, ◌+◌, ◌-◌, ◌<◌, eqb, ltb, length, get_or}
-use Rattle.std.proofs.Math.Option.{Option}
+use Rattle.std.specs.Prelude.{Option}
 use Rattle.fairness.specs.Classes.{class_weights}
 use Rattle.fairness.specs.Instance.{Instance, Feasible, placed, total}
 use Rattle.fairness.specs.Leximin.{table}

@@ -2,7 +2,7 @@
 -- reports, and the totals. Where paper 01 gives what is planned, the sheet is one with those totals, and settled. Behind them paper 02's
 -- order of the seat rule, on books of our own, its K5 with balances, and K5 with weights of its own.
 use Rattle.std.specs.Prelude.{◌≡◌, List, [], ◌∷◌, ℕ}
-use Rattle.std.proofs.Math.Option.{none, some}
+use Rattle.std.specs.Prelude.{None, Some}
 use Rattle.model.specs.Book.{Book, Grid, SheetOf, Lawful, NoneIdle, with_first, with_balances, with_weights, totals}
 use Rattle.model.specs.Marks.{mark_of, result_of}
 
@@ -24,19 +24,19 @@ pub record Holds (e : Example) : Type 0 where
 
 abbrev book : List ℕ → List ℕ → Grid → Book
 book classes supplies caps =
-    record { classes = classes; supplies = supplies; caps = caps; first = none; balances = none; weights = none }
+    record { classes = classes; supplies = supplies; caps = caps; first = None; balances = None; weights = None }
 
 -- a book with the seat that comes first
 abbrev first_is : ℕ → Book → Book
-first_is k b = with_first (some k) b
+first_is k b = with_first (Some k) b
 
 -- a book with balances
 abbrev carried : List ℕ → Book → Book
-carried xs b = with_balances (some xs) b
+carried xs b = with_balances (Some xs) b
 
 -- a book with weights of its own
 abbrev weighed : List ℕ → Book → Book
-weighed ws b = with_weights (some ws) b
+weighed ws b = with_weights (Some ws) b
 
 -- weights 1, 3 and so on; the largest that a file can hold; and paper 01's
 abbrev steep : List ℕ

@@ -1,6 +1,6 @@
 -- The mark of a sheet: the first that holds of wasteful (1), improvable (2), tied (3), settled (4). Tied and settled pass.
 use Rattle.std.specs.Prelude.{Bool, true, false, ◌&&◌, List, [], ◌∷◌, ℕ, ◌+◌, ◌≤◌, ◌<◌, ltb, get_or}
-use Rattle.std.proofs.Math.Option.{Option, some}
+use Rattle.std.specs.Prelude.{Option, Some}
 use Rattle.fairness.specs.Instance.{placed, Wasteful}
 use Rattle.fairness.specs.Exchange.{Move, improves_at, ties_at, Improvable, Tied}
 use Rattle.model.specs.Lowest.{lowest, is_some, or_else, and_then, value_or}
@@ -27,9 +27,9 @@ module _ (b : Book) (s : Grid) where
   unfoldable pub mark_of : Mark
   mark_of =
       value_or
-      (or_else (and_then wasted_window (λ j. and_then (seat_below j) (λ i. some (wasteful j i))))
-      (or_else (and_then (search b s (improves_at (instance_of b) (cell s))) (λ f. some (improvable f)))
-      (and_then (search b s (ties_at (instance_of b) (cell s))) (λ f. some (tied f)))))
+      (or_else (and_then wasted_window (λ j. and_then (seat_below j) (λ i. Some (wasteful j i))))
+      (or_else (and_then (search b s (improves_at (instance_of b) (cell s))) (λ f. Some (improvable f)))
+      (and_then (search b s (ties_at (instance_of b) (cell s))) (λ f. Some (tied f)))))
       settled
 
 -- ---- what each mark says (proved in proofs/Marks.antt)

@@ -1,6 +1,6 @@
 -- The search rule: which exchange path the marker reports. Sets of seats grow by layers, so all of it computes.
 use Rattle.std.specs.Prelude.{◌≡◌, Bool, true, false, ◌&&◌, ◌||◌, List, [], ◌∷◌, ℕ, zero, suc, ◌≤◌, ◌<◌, eqb, ltb, length}
-use Rattle.std.proofs.Math.Option.{Option, some}
+use Rattle.std.specs.Prelude.{Option, Some}
 use Rattle.fairness.specs.Leximin.{table}
 use Rattle.fairness.specs.Exchange.{Move, Path}
 use Rattle.model.specs.Lowest.{lowest, is_some, and_then}
@@ -70,7 +70,7 @@ module _ (b : Book) (s : Grid) where
     unfoldable pub search : Option Found
     search =
         and_then first_receiver
-        (λ g. and_then (donor_of g) (λ l. and_then (fewest g l) (λ r. some (record { receiver = g; donor = l; moves = r }))))
+        (λ g. and_then (donor_of g) (λ l. and_then (fewest g l) (λ r. Some (record { receiver = g; donor = l; moves = r }))))
 
 -- ---- what the search stands for: paper 01's rule in words, without layers (the two are proved equal in proofs/Meaning.antt)
 

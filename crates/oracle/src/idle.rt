@@ -4,7 +4,7 @@ ghost use Rattle.std.specs.Prelude.{◌≤◌};
 use crate::Small;
 use crate::memory::grid_of;
 use dayfile::Day;
-use sheet::Caps;
+use sheet::Grid;
 
 // Whether the numbers of all windows are zero.
 pub fn all_zero(row: [u16; 24]) -> bool {
@@ -17,7 +17,7 @@ pub fn all_zero(row: [u16; 24]) -> bool {
 }
 
 // The lowest idle seat above a seat, both counted from 1, in a book of so many seats; 0 where there is none. Caps outside the book are 0.
-pub fn idle_above(caps: Caps, seat: usize, seats: usize) -> usize
+pub fn idle_above(caps: Grid, seat: usize, seats: usize) -> usize
     ensures { result ≤ 32 }
 {
     for i in 0..32usize {

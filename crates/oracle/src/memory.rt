@@ -4,7 +4,7 @@ ghost use Rattle.std.specs.Prelude.{◌<◌};
 use crate::Small;
 use crate::paths::byte;
 use dayfile::{Book, Day};
-use sheet::Caps;
+use sheet::Grid;
 
 // The book in memory, but for its caps.
 pub fn book_of(s: Small) -> Book {
@@ -27,7 +27,7 @@ pub fn book_of(s: Small) -> Book {
 }
 
 // Cells as the library's grid.
-pub fn grid_of(cells: [u16; 12]) -> Caps {
+pub fn grid_of(cells: [u16; 12]) -> Grid {
     let mut grid = [[0u16; 24]; 32];
     for k in 0..12usize {
         let i = k / 3;
@@ -38,7 +38,7 @@ pub fn grid_of(cells: [u16; 12]) -> Caps {
 }
 
 // And back.
-fn cells_of(grid: Caps) -> [u16; 12] {
+fn cells_of(grid: Grid) -> [u16; 12] {
     let mut cells = [0u16; 12];
     for k in 0..12usize {
         let i = k / 3;

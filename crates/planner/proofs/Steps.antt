@@ -2,7 +2,7 @@
 use mathlib.Core.Path.{◌≡◌, refl, sym, ap, ap₂, ◌∙◌, subst}
 use mathlib.Core.Bool.{true}
 use mathlib.Core.List.{List, ◌++◌}
-use mathlib.Core.Option.{Option, none, some}
+use Rattle.std.specs.Prelude.{Option, None, Some}
 use Prim.Native.Nat.{ℕ, ◌<◌}
 use native.Mathlib.Omega.{arith}
 use lib.ListN.{length}
@@ -52,12 +52,12 @@ module _ (m : Memory.Book) (caps g : Grid) where
 
 module _ (f : List ℕ) (room : ℕ) where
   -- a line of the reader's holds
-  pub plan-stop : (q : Refusal) → first_of (read_lines f) ≡ some q → first_of (plan_lines f room) ≡ some q
+  pub plan-stop : (q : Refusal) → first_of (read_lines f) ≡ Some q → first_of (plan_lines f room) ≡ Some q
   unfolding plan_lines
   plan-stop q e = stop-in (forecast_lines f) _ q (stop-in (read_lines f) (idle_lines f) q e)
 
   -- none does, so those behind them decide
-  pub plan-on : first_of (read_lines f) ≡ none →
+  pub plan-on : first_of (read_lines f) ≡ None →
       first_of (plan_lines f room) ≡ first_of (idle_lines f ++ buffer_lines room (planned_length (book_of f)))
   unfolding plan_lines
   plan-on e =
@@ -74,11 +74,11 @@ module _ (f : List ℕ) (room : ℕ) where
       both ∙ ap₂ or_else idle (short ∙ ap (λ (k : ℕ). first_of (buffer_lines room k)) e) ∙ sym (first-both (idle_lines f) _)
 
 module _ (f old : List ℕ) where
-  pub plan-refused : (n p : ℕ) → first_of (plan_lines f (length old)) ≡ some (refuse n p) →
+  pub plan-refused : (n p : ℕ) → first_of (plan_lines f (length old)) ≡ Some (refuse n p) →
       Plans f old old (Written.TheVariants.Refused n p)
   plan-refused n p e = defined-refusal (refuse n p) e refl refl
 
-  pub plan-whole : first_of (plan_lines f (length old)) ≡ none → (b : Book) → b ≡ book_of f → (new : List ℕ) (n : ℕ) →
+  pub plan-whole : first_of (plan_lines f (length old)) ≡ None → (b : Book) → b ≡ book_of f → (new : List ℕ) (n : ℕ) →
       n ≡ planned_length (book_of f) → Planned b old new → Plans f old new (Written.TheVariants.Whole n)
   plan-whole free b same new n e planned =
       defined-answer n free refl (e, subst (λ (x : Book). Planned x old new) same planned)

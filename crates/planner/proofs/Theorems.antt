@@ -1,7 +1,7 @@
 -- Demand 3 for the planner, over its contract `Plans`, with the definitions of specs/ alone.
 use mathlib.Core.Path.{◌≡◌, sym, ap, ◌∙◌}
 use mathlib.Core.List.{List}
-use mathlib.Core.Option.{some}
+use Rattle.std.specs.Prelude.{Some}
 use Prim.Native.Nat.{ℕ}
 use lib.ListN.{length}
 use Rattle.fairness.specs.Exchange.{Settled}
@@ -33,7 +33,7 @@ module _
 
     -- the planned file
     abbrev pub the_file : List ℕ
-    the_file = file_of (book_of file) (some planned.sheet)
+    the_file = file_of (book_of file) (Some planned.sheet)
 
     shape : SheetOf (book_of file) planned.sheet
     shape = planned.standard.a_sheet
@@ -58,8 +58,8 @@ module _
         ∙ sym (planned-length (book_of file) planned.sheet fit.cap_shape shape))
 
     -- it reads back as the same book with the planned sheet
-    pub reads_back : read_file the_file ≡ answer (book_of file, some planned.sheet)
-    reads_back = written_reads_back (book_of file) (some planned.sheet) fit shape
+    pub reads_back : read_file the_file ≡ answer (book_of file, Some planned.sheet)
+    reads_back = written_reads_back (book_of file) (Some planned.sheet) fit shape
 
     -- the planned sheet's list is the highest list of the book
     pub highest : HighestList (book_of file) (profile_of (book_of file) planned.sheet)

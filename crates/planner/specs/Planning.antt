@@ -1,6 +1,6 @@
 -- What the planner answers for a file and an output buffer, and what the buffer holds afterwards.
 use Rattle.std.specs.Prelude.{◌≡◌, List, ℕ, length}
-use Rattle.std.proofs.Math.Option.{some}
+use Rattle.std.specs.Prelude.{Some}
 use Rattle.model.specs.Book.{Book, Grid}
 use Rattle.model.specs.Fair.{StandardSheet}
 use Rattle.dayfile.specs.declared.Written.{Written}
@@ -14,7 +14,7 @@ use Rattle.dayfile.specs.Memory.{front, written}
 pub record Planned (b : Book) (before after : List ℕ) : Type 0 where
   pub sheet : Grid
   pub standard : StandardSheet b sheet
-  pub bytes : after ≡ front (file_of b (some sheet)) before
+  pub bytes : after ≡ front (file_of b (Some sheet)) before
 
 -- the planner's contract: down its lines, the length of the planned file, and the planned file of the book stands at the buffer's front. A
 -- book has one standard sheet and no other (crates/model/proofs/Theorems.antt), so no byte is free.

@@ -12,13 +12,13 @@ ghost use Rattle.planner.specs.Planning.{Plans};
 
 use dayfile::{Book, Check, Written, check_room, first_check};
 use idle::check_idle;
-use sheet::Caps;
+use sheet::Grid;
 use store::file_length;
 
 // The standard sheet of the book that is in memory.
 // Never made part of its caller: so its locals take stack only while it runs.
 #[inline(never)]
-fn planned_sheet(book: Book, caps: Caps) -> Caps
+fn planned_sheet(book: Book, caps: Grid) -> Grid
     requires { Fit (book_in book caps) }
     ensures { Standard (instance_of (book_in book caps)) (cell result) }
 {
@@ -29,7 +29,7 @@ fn planned_sheet(book: Book, caps: Caps) -> Caps
 }
 
 // The lines behind the reader's, of a file whose book is in memory and a buffer of `room` bytes: 22, then 16.
-fn check_rest(file: &[u8], book: Book, caps: &Caps, room: usize) -> Check
+fn check_rest(file: &[u8], book: Book, caps: &Grid, room: usize) -> Check
     requires { (book_in book caps.now ≡ book_of file.now) × Fit (book_in book caps.now) }
     ensures { refused result ≡ first_of (idle_lines file.now
         ++ buffer_lines room (planned_length (book_of file.now))) }

@@ -4,7 +4,7 @@ ghost use Rattle.fill.specs.Fills.{Keeps};
 
 use crate::links::{Links, TAKERS, WINDOWS, note_step};
 use fill::{Size, lesser, passes, shift, step_within};
-use sheet::{Caps, Move};
+use sheet::{Grid, Move};
 
 // A number of the links as an index.
 fn wide(x: u32) -> usize {
@@ -26,7 +26,7 @@ fn step_of(links: &Links, giver: usize) -> Move
 }
 
 // As many credits as every step of the cycle lets through. It starts with the seat and ends where the seat takes.
-fn bottleneck(grid: &Caps, links: &Links, caps: &Caps, seat: usize) -> u16
+fn bottleneck(grid: &Grid, links: &Links, caps: &Grid, seat: usize) -> u16
     requires { seat < 32 }
 {
     let mut giver = seat;
@@ -43,7 +43,7 @@ fn bottleneck(grid: &Caps, links: &Links, caps: &Caps, seat: usize) -> u16
 }
 
 // Moves as many credits along the cycle as it lets through, and notes anew what the seats have there.
-pub(crate) fn push(grid: &mut Caps, links: &mut Links, caps: &Caps, size: Size, seat: usize)
+pub(crate) fn push(grid: &mut Grid, links: &mut Links, caps: &Grid, size: Size, seat: usize)
     requires seats_bound { (size.seats ≤ 32) × (size.windows ≤ 24) }
     requires seat_bound { seat < 32 }
     ensures { Keeps size.seats size.windows caps.now grid.old grid.new }

@@ -15,11 +15,11 @@ use fill::Size;
 use links::{HOLDERS, Links, ROOMS};
 use masks::{full, has, intersect, lowest, minus, union, with};
 use search::Cell;
-use sheet::Caps;
+use sheet::Grid;
 
 // Raises the cells of a seat, always the first that is below its cap and not closed. Closed are the windows of each search that hit no
 // goal: as long as this row lasts, none is reached from there. A turn closes a window or saturates a step of a cycle.
-fn raise_row(grid: &mut Caps, links: &mut Links, caps: &Caps, size: Size, seat: usize)
+fn raise_row(grid: &mut Grid, links: &mut Links, caps: &Grid, size: Size, seat: usize)
     requires seats_bound { (size.seats ≤ 32) × (size.windows ≤ 24) }
     requires seat_lt_seats { seat < size.seats }
     ensures { Keeps size.seats size.windows caps.now grid.old grid.new }
@@ -56,7 +56,7 @@ fn raise_row(grid: &mut Caps, links: &mut Links, caps: &Caps, size: Size, seat: 
 }
 
 // Raises the cells of a filled grid, seat by seat. What is filled stays filled.
-pub fn raise(grid: &mut Caps, caps: &Caps, size: Size)
+pub fn raise(grid: &mut Grid, caps: &Grid, size: Size)
     requires { (size.seats ≤ 32) × (size.windows ≤ 24) }
     ensures { Keeps size.seats size.windows caps.now grid.old grid.new }
 {

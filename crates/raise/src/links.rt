@@ -3,7 +3,7 @@ ghost use Rattle.std.specs.Prelude.{◌≤◌, ◌<◌};
 
 use fill::Size;
 use masks::{has, with};
-use sheet::{Caps, Move};
+use sheet::{Grid, Move};
 
 // All of it in one array of rows, which is lent whole.
 pub(crate) type Links = [[u32; 32]; 4];
@@ -18,7 +18,7 @@ pub(crate) const TAKERS: usize = 2;
 pub(crate) const WINDOWS: usize = 3;
 
 // Notes whether a seat is below its cap in a window, and whether it has a credit there.
-fn note(links: &mut Links, grid: &Caps, caps: &Caps, seat: usize, window: usize)
+fn note(links: &mut Links, grid: &Grid, caps: &Grid, seat: usize, window: usize)
     requires { (seat < 32) × (window < 24) }
 {
     let cell = grid[seat][window];
@@ -28,7 +28,7 @@ fn note(links: &mut Links, grid: &Caps, caps: &Caps, seat: usize, window: usize)
 }
 
 // The same for the windows of a seat.
-fn note_seat(links: &mut Links, grid: &Caps, caps: &Caps, windows: usize, seat: usize)
+fn note_seat(links: &mut Links, grid: &Grid, caps: &Grid, windows: usize, seat: usize)
     requires { (seat < 32) × (windows ≤ 24) }
 {
     for w in 0..windows {
@@ -37,7 +37,7 @@ fn note_seat(links: &mut Links, grid: &Caps, caps: &Caps, windows: usize, seat: 
 }
 
 // The links of a grid. The tree is empty yet.
-pub(crate) fn links_of(grid: &Caps, caps: &Caps, size: Size) -> Links
+pub(crate) fn links_of(grid: &Grid, caps: &Grid, size: Size) -> Links
     requires { (size.seats ≤ 32) × (size.windows ≤ 24) }
 {
     let mut links = [[0u32; 32]; 4];
@@ -48,7 +48,7 @@ pub(crate) fn links_of(grid: &Caps, caps: &Caps, size: Size) -> Links
 }
 
 // Notes anew what the two seats of a step have in its window.
-pub(crate) fn note_step(links: &mut Links, grid: &Caps, caps: &Caps, step: Move)
+pub(crate) fn note_step(links: &mut Links, grid: &Grid, caps: &Grid, step: Move)
     requires { (step.window < 24) × ((step.giver < 32) × (step.taker < 32)) }
 {
     note(links, grid, caps, step.giver, step.window);

@@ -1,6 +1,6 @@
 // The day of a file, as its bodies stand: of a file that is turned away this says nothing.
 ghost use Rattle.std.specs.Prelude.{◌≡◌, [], ℕ, ◌<◌, replicate};
-ghost use Rattle.std.proofs.Math.Option.{none, some};
+ghost use Rattle.std.specs.Prelude.{None, Some};
 ghost use Rattle.model.specs.Lowest.{value_or, is_some, and_then};
 ghost use Rattle.sheet.specs.Sheets.{grid_of};
 ghost use Rattle.dayfile.specs.Layout.{field, fields_at, start, seats_in, windows_in, grid_in, book_of, sheet_of};
@@ -25,7 +25,7 @@ fn is_there(entry: Found) -> bool
 // The field that is the body of an entry; 0 where there is none.
 fn field_of(file: &[u8], entry: Found) -> u16
     requires { Under 65536 (found entry) }
-    ensures { result ≡ value_or (and_then (found entry) (λ e. some (field file.now (start file.now e)))) 0 }
+    ensures { result ≡ value_or (and_then (found entry) (λ e. Some (field file.now (start file.now e)))) 0 }
 {
     if let Found::At(e) = entry {
         return field(file, start(file, e)) as u16;
@@ -37,7 +37,7 @@ fn field_of(file: &[u8], entry: Found) -> u16
 fn list_of(array: &mut [u16], file: &[u8], entry: Found, n: usize)
     requires { Under 65536 (found entry) × (n < 32768) }
     ensures { (l : ℕ) → array.old ≡ replicate l 0 → array.new ≡ sized l (value_or (and_then (found entry)
-        (λ e. some (fields_at file.now (start file.now e) n))) []) }
+        (λ e. Some (fields_at file.now (start file.now e) n))) []) }
 {
     if let Found::At(e) = entry {
         fill(array, file, start(file, e), n);
@@ -97,7 +97,7 @@ fn grid_of(file: &[u8], e: usize) -> Sheet
 // The sheet that is the body of an entry; all cells are 0 where there is none.
 fn sheet_of(file: &[u8], entry: Found) -> Sheet
     requires { Under 65536 (found entry) }
-    ensures { grid_of result ≡ held (value_or (and_then (found entry) (λ e. some (grid_in file.now e))) []) }
+    ensures { grid_of result ≡ held (value_or (and_then (found entry) (λ e. Some (grid_in file.now e))) []) }
 {
     if let Found::At(e) = entry {
         return grid_of(file, e);
@@ -124,7 +124,7 @@ pub fn day_of(file: &[u8]) -> Day
 
 // A day of zeros.
 pub fn no_day() -> Day
-    ensures { Holds no_book none result }
+    ensures { Holds no_book None result }
 {
     let book = Book {
         seats: 0,

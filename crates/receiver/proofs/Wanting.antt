@@ -52,4 +52,4 @@ module _ (kind : Kind) (scores : Scores) (graph : Graph) (seats g wanted : ℕ)
 
   -- nobody is reached who is wanted
   pub none-reached : ((l : ℕ) → Reached graph g l → In l wanted → ⊥) → (l : ℕ) → Donor kind scores graph seats g l → ⊥
-  none-reached none l d = none l d.0 ((wants l).1 d.1)
+  none-reached None l d = None l d.0 ((wants l).1 d.1)

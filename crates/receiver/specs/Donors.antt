@@ -19,7 +19,7 @@ NoDonor kind scores graph seats = (g l : ℕ) → g < seats → Donor kind score
 -- the first receiver that has a donor
 pub record First (kind : Kind) (scores : Scores) (graph : Graph) (seats g : ℕ) : Type 0 where
   pub seat : g < seats
-  pub some : (l : ℕ) × Donor kind scores graph seats g l
+  pub Some : (l : ℕ) × Donor kind scores graph seats g l
   pub earlier : (h k : ℕ) → h < g → Donor kind scores graph seats h k → ⊥
 
 -- that receiver, or the fact that there is none

@@ -1,7 +1,7 @@
 // The numbers of a line. They are kept as fields of a day file are: two bytes each, low byte first.
 ghost use Rattle.std.specs.Prelude.{◌<◌};
 
-use sheet::Caps;
+use sheet::Grid;
 
 fn field(low: u8, high: u8) -> u16 {
     low as u16 + 256 * high as u16
@@ -117,7 +117,7 @@ pub fn fill(numbers: &[u8], place: usize, out: &mut [u16]) {
 }
 
 // Rows of so many windows, from a place on.
-pub fn grid(numbers: &[u8], place: usize, windows: usize) -> Caps
+pub fn grid(numbers: &[u8], place: usize, windows: usize) -> Grid
     requires { (place < 4500000000) × (windows < 65536) }
 {
     let mut grid = [[0u16; 24]; 32];

@@ -25,7 +25,7 @@ module _ (scores : Scores) (graph : Graph) (seats : ℕ) (x : ExchangePath) wher
 
     pub tied : NoDonor Improving scores graph seats → FirstPair WronglyTied scores graph seats g l → Nearest WronglyTied graph g l x
         → Finds x.kind scores graph seats x
-    tied none f near = of-kind _ near.kind_is (none, first-path WronglyTied f near)
+    tied None f near = of-kind _ near.kind_is (None, first-path WronglyTied f near)
 
   pub neither : (x.kind ≡ None) × (x.count ≡ 0) → NoDonor Improving scores graph seats → NoDonor WronglyTied scores graph seats
       → Finds x.kind scores graph seats x

@@ -20,7 +20,7 @@ module _ (kind : Kind) (scores : Scores) (graph : Graph) (seats g wanted : ℕ)
   donor-in l d = omega (arith, shared l, (wants l).1 d.1, (reaches l).1 d.0)
 
   pub some-donor : 0 < both
-  some-donor = in_pos both f.some.0 (donor-in f.some.0 f.some.1)
+  some-donor = in_pos both f.Some.0 (donor-in f.Some.0 f.Some.1)
 
   pub first-pair : (l : ℕ) → Lowest both l → FirstPair kind scores graph seats g l
   first-pair l low =

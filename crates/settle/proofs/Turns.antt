@@ -69,6 +69,6 @@ module _ (t : Terms) (caps : Grid) (small : Small t caps) (grid : Grid) (full : 
   -- no path is left
   pub turn_last : x.kind ≡ None → (J : Instance) → Told J t caps → Settled J S
   turn_last e J told =
-      let none = rw e at answers in
+      let None = rw e at answers in
       shown-settled t caps J told S grid (shows-itself t grid)
-      (record { feasible = full.feasible; full = full.unwasted; fair = none.0; ordered = none.1 })
+      (record { feasible = full.feasible; full = full.unwasted; fair = None.0; ordered = None.1 })

@@ -13,10 +13,10 @@ ghost use Rattle.settle.specs.Playing.{AllPlayable, Plays};
 use exchange::find_path;
 use instance::Terms;
 use paths::{ExchangePath, Kind};
-use sheet::{Caps, Sheet};
+use sheet::{Grid, Sheet};
 
 // The grid after the moves of an exchange path, played one after another.
-pub fn play_path(grid: Caps, path: ExchangePath) -> Caps
+pub fn play_path(grid: Grid, path: ExchangePath) -> Grid
     requires writable { Writable path }
     requires all_playable { AllPlayable (cell grid) (moves_of path) }
     ensures { Plays (cell grid) (moves_of path) (cell result) }
@@ -32,7 +32,7 @@ pub fn play_path(grid: Caps, path: ExchangePath) -> Caps
 }
 
 // Makes a grid a settled one of the same book: exchange paths are played until none is left.
-pub fn settle(grid: &mut Caps, caps: &Caps, t: Terms)
+pub fn settle(grid: &mut Grid, caps: &Grid, t: Terms)
     requires small { Small t caps.now }
     requires full { Full (instance_in t caps.now) (cell grid.old) }
     ensures { (I : Instance) → Told I t caps.now → Settled I (cell grid.new) }

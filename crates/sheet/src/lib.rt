@@ -29,8 +29,8 @@ pub struct Move {
     pub taker: usize,
 }
 
-// The most each seat can use in each window.
-pub type Caps = [[u16; 24]; 32];
+// A number for each seat and window: the credits of a sheet, or the caps.
+pub type Grid = [[u16; 24]; 32];
 
 // A cell as a term of a sum.
 fn wide(x: u16) -> u32
@@ -64,7 +64,7 @@ fn add_row(mut sums: [u32; 24], row: &[u16; 24], windows: usize) -> [u32; 24]
 }
 
 // Each window's cells together.
-pub fn placed(grid: &Caps, seats: usize, windows: usize) -> [u32; 24]
+pub fn placed(grid: &Grid, seats: usize, windows: usize) -> [u32; 24]
     requires { (seats ≤ 32) × (windows ≤ 24) }
     ensures { (j : ℕ) → j < windows → get_or result j 0 ≡ sum seats (λ i. cell grid.now i j) }
 {
@@ -112,7 +112,7 @@ impl Sheet {
     }
 
     // The cells as a bare array of arrays.
-    pub fn to_grid(self) -> Caps
+    pub fn to_grid(self) -> Grid
         ensures { result ≡ grid_of self }
     {
         let mut grid = [[0u16; 24]; 32];
@@ -125,7 +125,7 @@ impl Sheet {
     }
 
     // The sheet with the cells of a bare array of arrays.
-    pub fn from_grid(grid: Caps) -> Sheet
+    pub fn from_grid(grid: Grid) -> Sheet
         ensures { grid_of result ≡ grid }
     {
         let mut sheet = Sheet::zero();

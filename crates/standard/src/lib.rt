@@ -13,11 +13,11 @@ use climb::climb;
 use fill::Size;
 use instance::Terms;
 use raise::raise;
-use sheet::{Caps, row_total};
+use sheet::{Grid, row_total};
 use topmost::all_blocked;
 
 // Whether each seat has the same total in two grids.
-fn same_totals(a: &Caps, b: &Caps, size: Size) -> bool
+fn same_totals(a: &Grid, b: &Grid, size: Size) -> bool
     requires { (size.seats ≤ 32) × (size.windows ≤ 24) }
     ensures { result ≡ true → (i : ℕ) → i < size.seats →
         sum size.windows (cell a.now i) ≡ sum size.windows (cell b.now i) }
@@ -33,7 +33,7 @@ fn same_totals(a: &Caps, b: &Caps, size: Size) -> bool
 
 // The fast pass over a grid, taken back unless it is settled still: the pass keeps each window's sum, so it is where it kept the seats'
 // totals.
-fn raise_settled(grid: &mut Caps, caps: &Caps, t: Terms)
+fn raise_settled(grid: &mut Grid, caps: &Grid, t: Terms)
     requires small { Small t caps.now }
     requires shaped { Shaped 32 24 grid.old }
     requires settled { Settled (instance_in t caps.now) (cell grid.old) }
@@ -52,7 +52,7 @@ fn raise_settled(grid: &mut Caps, caps: &Caps, t: Terms)
 }
 
 // Makes a settled grid the standard one.
-pub fn make_standard(grid: &mut Caps, caps: &Caps, t: Terms)
+pub fn make_standard(grid: &mut Grid, caps: &Grid, t: Terms)
     requires small { Small t caps.now }
     requires shaped { Shaped 32 24 grid.old }
     requires settled { Settled (instance_in t caps.now) (cell grid.old) }

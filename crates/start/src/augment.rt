@@ -5,10 +5,10 @@ ghost use Rattle.fill.specs.Fills.{Keeps};
 use crate::choose::Augmentation;
 use crate::residual::{Phase, Residual, note_step};
 use fill::{Size, lesser, passes, shift};
-use sheet::Caps;
+use sheet::Grid;
 
 // As many of the credits as every step of the path lets through.
-fn bottleneck(grid: &Caps, caps: &Caps, a: Augmentation) -> u16
+fn bottleneck(grid: &Grid, caps: &Grid, a: Augmentation) -> u16
     requires { a.donor < 32 }
 {
     let tree = a.tree;
@@ -28,9 +28,9 @@ fn bottleneck(grid: &Caps, caps: &Caps, a: Augmentation) -> u16
 // Moves as many of the credits along the path as it lets through, the donor's step first, and notes anew who can take and who can give
 // there. Returns how many went.
 pub(crate) fn augment(
-    grid: &mut Caps,
+    grid: &mut Grid,
     residual: &mut Residual,
-    caps: &Caps,
+    caps: &Grid,
     phase: Phase,
     a: Augmentation,
 ) -> u16

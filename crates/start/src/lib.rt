@@ -14,10 +14,10 @@ ghost use Rattle.fill.specs.Fills.{Keeps};
 use instance::Terms;
 use masks::{full, minus};
 use residual::{Phase, Residual};
-use sheet::Caps;
+use sheet::Grid;
 
 // One augmentation: the lowest receiver that is active takes from the highest donor that it reaches. Returns who is active after it.
-fn turn(grid: &mut Caps, residual: &mut Residual, caps: &Caps, phase: Phase, active: u32) -> u32
+fn turn(grid: &mut Grid, residual: &mut Residual, caps: &Grid, phase: Phase, active: u32) -> u32
     requires seats_bound { (phase.seats ≤ 32) × (phase.windows ≤ 24) }
     requires active_nonzero { 0 < active }
     ensures { Keeps phase.seats phase.windows caps.now grid.old grid.new }
@@ -30,7 +30,7 @@ fn turn(grid: &mut Caps, residual: &mut Residual, caps: &Caps, phase: Phase, act
 
 // Augmentations of at least the phase's unit. Where the donor has too little to give, none that is reached takes part any more. With 1 for
 // the unit the end is settled if the turns suffice.
-fn scale(grid: &mut Caps, residual: &mut Residual, caps: &Caps, phase: Phase)
+fn scale(grid: &mut Grid, residual: &mut Residual, caps: &Grid, phase: Phase)
     requires { (phase.seats ≤ 32) × (phase.windows ≤ 24) }
     ensures { Keeps phase.seats phase.windows caps.now grid.old grid.new }
 {
@@ -45,7 +45,7 @@ fn scale(grid: &mut Caps, residual: &mut Residual, caps: &Caps, phase: Phase)
 }
 
 // Evens out the seats of a filled grid, in bulk first and then down to single credits. What is filled stays filled.
-pub fn even_out(grid: &mut Caps, caps: &Caps, t: Terms)
+pub fn even_out(grid: &mut Grid, caps: &Grid, t: Terms)
     requires { (t.seats ≤ 32) × (t.windows ≤ 24) }
     ensures { Keeps t.seats t.windows caps.now grid.old grid.new }
 {

@@ -4,7 +4,7 @@ ghost use Rattle.std.specs.Prelude.{◌<◌, ◌≤◌};
 use fill::room;
 use instance::Terms;
 use masks::with;
-use sheet::{Caps, Move};
+use sheet::{Grid, Move};
 
 // All of it in one array of rows, which is lent whole.
 pub(crate) type Residual = [[u32; 32]; 5];
@@ -29,7 +29,7 @@ pub(crate) struct Phase {
 }
 
 // Notes whether a seat can take and whether it can give in a window.
-fn note(residual: &mut Residual, grid: &Caps, caps: &Caps, unit: u16, seat: usize, window: usize)
+fn note(residual: &mut Residual, grid: &Grid, caps: &Grid, unit: u16, seat: usize, window: usize)
     requires { (seat < 32) × (window < 24) }
 {
     let cell = grid[seat][window];
@@ -39,7 +39,7 @@ fn note(residual: &mut Residual, grid: &Caps, caps: &Caps, unit: u16, seat: usiz
 }
 
 // The same for the seats of a window.
-fn note_window(residual: &mut Residual, grid: &Caps, caps: &Caps, phase: Phase, window: usize)
+fn note_window(residual: &mut Residual, grid: &Grid, caps: &Grid, phase: Phase, window: usize)
     requires { (phase.seats ≤ 32) × (window < 24) }
 {
     for i in 0..phase.seats {
@@ -48,7 +48,7 @@ fn note_window(residual: &mut Residual, grid: &Caps, caps: &Caps, phase: Phase, 
 }
 
 // The same for all windows.
-pub(crate) fn note_all(residual: &mut Residual, grid: &Caps, caps: &Caps, phase: Phase)
+pub(crate) fn note_all(residual: &mut Residual, grid: &Grid, caps: &Grid, phase: Phase)
     requires { (phase.seats ≤ 32) × (phase.windows ≤ 24) }
 {
     for w in 0..phase.windows {
@@ -57,7 +57,7 @@ pub(crate) fn note_all(residual: &mut Residual, grid: &Caps, caps: &Caps, phase:
 }
 
 // Each seat's base and total. A book's never wrap.
-fn heights_of(grid: &Caps, t: Terms) -> [u32; 32]
+fn heights_of(grid: &Grid, t: Terms) -> [u32; 32]
     requires { (t.seats ≤ 32) × (t.windows ≤ 24) }
 {
     let seats = t.seats;
@@ -71,7 +71,7 @@ fn heights_of(grid: &Caps, t: Terms) -> [u32; 32]
 }
 
 // What seats are ranked by. Who can take and who can give is not noted yet.
-pub(crate) fn ranks_of(grid: &Caps, t: Terms) -> Residual
+pub(crate) fn ranks_of(grid: &Grid, t: Terms) -> Residual
     requires { (t.seats ≤ 32) × (t.windows ≤ 24) }
 {
     let none = [0u32; 32];
@@ -82,7 +82,7 @@ pub(crate) fn ranks_of(grid: &Caps, t: Terms) -> Residual
 }
 
 // Notes anew whether the two seats of a step can take and give in its window.
-pub(crate) fn note_step(residual: &mut Residual, grid: &Caps, caps: &Caps, unit: u16, step: Move)
+pub(crate) fn note_step(residual: &mut Residual, grid: &Grid, caps: &Grid, unit: u16, step: Move)
     requires { (step.window < 24) × ((step.giver < 32) × (step.taker < 32)) }
 {
     note(residual, grid, caps, unit, step.giver, step.window);

@@ -2,7 +2,7 @@
 -- Assumes nothing.
 use mathlib.Core.Bool.{Bool, true, false}
 use mathlib.Core.List.{List, [], ◌∷◌, ◌++◌, append-nil}
-use mathlib.Core.Option.{Option, none, some}
+use Rattle.std.specs.Prelude.{Option, None, Some}
 use mathlib.Core.Path.{◌≡◌, refl, sym, ◌∙◌, ap, ap₂, subst}
 use Prim.Native.Nat.{ℕ, ◌+◌, ◌*◌, ◌≤◌, ◌<◌}
 use native.Mathlib.Nat.{mul-le-mul}
@@ -27,8 +27,8 @@ use Rattle.store.proofs.Storing.{Begun, begun_first, begun-room, begun-next, beg
 -- ---- one slot: its entry, its body, its count
 
 abbrev if_there : Bool → List ℕ → Option (List ℕ)
-if_there true xs = some xs
-if_there false xs = none
+if_there true xs = Some xs
+if_there false xs = None
 
 contents-opt : (at k n : ℕ) (t : Bool) (xs : List ℕ) (qs : List Part) → length xs ≡ n
     → contents at (opt_part k (if_there t xs) ++ qs) ≡ fields_if t (k ∷ at ∷ 2 * n ∷ []) ++ contents (at + 2 * size_if t n) qs

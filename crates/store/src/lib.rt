@@ -9,7 +9,7 @@ use bodies::{put_lists, put_options};
 use contents::{count_entries, count_fields, put_contents, slots_of};
 use dayfile::Book;
 use numbers::{put_rows, size_if};
-use sheet::Caps;
+use sheet::Grid;
 
 pub mod bodies;
 pub mod contents;
@@ -26,7 +26,7 @@ pub fn file_length(book: Book, has_sheet: bool) -> usize
 
 // The file at the front of a buffer that is long enough. A sheet that is missing has no rows. A further kind goes to `put_options`.
 // The day comes in its parts, its two grids lent: whole, it would be copied.
-pub fn put_file(out: &mut [u8], book: Book, caps: &Caps, has_sheet: bool, sheet: &Caps) -> usize
+pub fn put_file(out: &mut [u8], book: Book, caps: &Grid, has_sheet: bool, sheet: &Grid) -> usize
     requires seats_bound { (book.seats ≤ 32) × (book.windows ≤ 24) }
     requires sheet_in_bounds { length (file_with book caps.now has_sheet sheet.now) ≤ length out.old }
     ensures length { result ≡ length (file_with book caps.now has_sheet sheet.now) }

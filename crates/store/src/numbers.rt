@@ -4,7 +4,7 @@ ghost use Rattle.dayfile.specs.File.{flat};
 ghost use Rattle.dayfile.specs.Memory.{sized, sized_grid};
 ghost use Rattle.store.specs.Stores.{Room, Put, size_if};
 
-use sheet::Caps;
+use sheet::Grid;
 
 // A field at an offset.
 pub fn put(buf: &mut [u8], at: usize, x: usize) -> usize
@@ -51,7 +51,7 @@ pub fn put_all(buf: &mut [u8], at: usize, src: &[u16], n: usize) -> usize
 }
 
 // The first n rows of a grid, m cells of each.
-pub fn put_rows(buf: &mut [u8], at: usize, grid: &Caps, n: usize, m: usize) -> usize
+pub fn put_rows(buf: &mut [u8], at: usize, grid: &Grid, n: usize, m: usize) -> usize
     requires { (n ≤ 32) × Room buf.old at (flat (sized_grid n m grid.now)) }
     ensures { Put buf.old at (flat (sized_grid n m grid.now)) result buf.new }
 {

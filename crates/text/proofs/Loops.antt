@@ -24,8 +24,8 @@ unfolding put_at
 writing-none b₀ at n count =
     let l = digits-length count n in
     let all : take count (digits count n) ≡ digits count n = rw l at (take-length (digits count n)) in
-    let none : drop count (digits count n) ≡ [] = rw l at (drop-length (digits count n)) in
-    record { within = omega arith; same = refl; whole = l; ahead = all; stored = ap (put_at b₀ (at + count)) (sym none) }
+    let None : drop count (digits count n) ≡ [] = rw l at (drop-length (digits count n)) in
+    record { within = omega arith; same = refl; whole = l; ahead = all; stored = ap (put_at b₀ (at + count)) (sym None) }
 
 writing_step : {b₀ : List ℕ} {at n count : ℕ} {b : List ℕ} {rest j : ℕ} → Writing b₀ at n count b rest (suc j)
     → Writing b₀ at n count (set b (at + j) (48 + rest % 10)) (rest / 10) j

@@ -13,7 +13,7 @@ use exchange::below;
 use instance::Terms;
 use masks::{full, has, insert, intersect, minus, union};
 use reach::union_over;
-use sheet::Caps;
+use sheet::Grid;
 
 // Each window by itself.
 fn singles() -> [u32; 24]
@@ -67,7 +67,7 @@ fn grown(sets: [u32; 24], rooms: u32, holds: u32, windows: usize) -> [u32; 24]
 }
 
 // Whether sets of windows show that no cell can be raised. Where one can be raised, they do not.
-pub fn all_blocked(grid: &Caps, caps: &Caps, t: Terms) -> bool
+pub fn all_blocked(grid: &Grid, caps: &Grid, t: Terms) -> bool
     requires { (t.seats ≤ 32) × (t.windows ≤ 24) }
     ensures { result ≡ true → AllBlocked (instance_in t caps.now) (cell grid.now) }
 {

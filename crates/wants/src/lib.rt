@@ -14,7 +14,7 @@ use dayfile::Found;
 use fields::field;
 use fill::lesser;
 use instance::Terms;
-use sheet::{Caps, row_total};
+use sheet::{Grid, row_total};
 
 // The most that a seat's cells can be together: 24 windows of 4,095 credits.
 const MOST: u32 = 98280;
@@ -92,7 +92,7 @@ fn alone_total(supplies: &[u16; 24], row: &[u16; 24], windows: usize) -> u32
 }
 
 // The same for each seat.
-pub fn alone_totals(t: Terms, caps: &Caps) -> [u32; 32]
+pub fn alone_totals(t: Terms, caps: &Grid) -> [u32; 32]
     requires { (t.seats ≤ 32) × (t.windows ≤ 24) }
     ensures { (i : ℕ) → i < t.seats →
         get_or result i 0 ≡ sum t.windows (λ j. min (get_or t.supplies j 0) (cell caps.now i j)) }
@@ -108,7 +108,7 @@ pub fn alone_totals(t: Terms, caps: &Caps) -> [u32; 32]
 }
 
 // Each seat's total.
-pub fn totals(grid: &Caps, seats: usize, windows: usize) -> [u32; 32]
+pub fn totals(grid: &Grid, seats: usize, windows: usize) -> [u32; 32]
     requires { (seats ≤ 32) × (windows ≤ 24) }
     ensures { (i : ℕ) → i < seats → get_or result i 0 ≡ sum windows (λ j. cell grid.now i j) }
 {
@@ -172,7 +172,7 @@ fn less_row(mut left: [u16; 24], row: &[u16; 24], windows: usize) -> [u16; 24]
 }
 
 // The seats served in turn: each takes what it wants, as far as its caps and what those before it left allow.
-pub fn serve(t: Terms, caps: &Caps, wants: [u32; 32]) -> Caps
+pub fn serve(t: Terms, caps: &Grid, wants: [u32; 32]) -> Grid
     requires { (t.seats ≤ 32) × (t.windows ≤ 24) }
     ensures { Feasible (instance_in t caps.now) (cell result) }
 {
@@ -190,7 +190,7 @@ pub fn serve(t: Terms, caps: &Caps, wants: [u32; 32]) -> Caps
 }
 
 // The first credits of each seat's row, as many as it wants.
-pub fn trim(grid: &Caps, wants: [u32; 32], seats: usize, windows: usize) -> Caps
+pub fn trim(grid: &Grid, wants: [u32; 32], seats: usize, windows: usize) -> Grid
     requires { (seats ≤ 32) × (windows ≤ 24) }
     ensures { (i j : ℕ) → i < seats → j < windows →
         cell result i j ≡ trimmed (get_or wants i 0) (cell grid.now i) j }

@@ -2,7 +2,7 @@
 use mathlib.Core.Path.{◌≡◌, sym, ap, ap₂, ◌∙◌}
 use mathlib.Core.Bool.{Bool, ◌&&◌}
 use mathlib.Core.List.{List}
-use mathlib.Core.Option.{none, some}
+use Rattle.std.specs.Prelude.{None, Some}
 use Prim.Native.Nat.{ℕ, ◌<◌}
 use lib.Dec.{ltb}
 use lib.ListN.{get_or}
@@ -49,11 +49,11 @@ module _
         ap₂ ◌&&◌ (ap₂ ltb (placed-is j l) (supply_in m caps j l)) (ap is_some (below-is j l))))
 
     -- the first window that is wasted, and its seat
-    pub wasted-at : (j i : ℕ) → some j ≡ lowest m.windows (wastes cells caps given m.supplies m.seats) → j < m.windows →
-        lowest_below cells caps m.seats j ≡ some i → Tells (book_in m caps) (cells_in m cells) (At j i)
+    pub wasted-at : (j i : ℕ) → Some j ≡ lowest m.windows (wastes cells caps given m.supplies m.seats) → j < m.windows →
+        lowest_below cells caps m.seats j ≡ Some i → Tells (book_in m caps) (cells_in m cells) (At j i)
     wasted-at j i first l p = (window_is ∙ sym first, below-is j l ∙ p)
 
     -- no window is
-    pub nowhere : none ≡ lowest m.windows (wastes cells caps given m.supplies m.seats) →
+    pub nowhere : None ≡ lowest m.windows (wastes cells caps given m.supplies m.seats) →
         Tells (book_in m caps) (cells_in m cells) Nowhere
     nowhere e = window_is ∙ sym e

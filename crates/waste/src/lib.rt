@@ -6,7 +6,7 @@ ghost use Rattle.dayfile.specs.Memory.{found, book_in, cells_in};
 ghost use Rattle.waste.specs.Wastes.{lowest_below, Tells};
 
 use dayfile::{Book, Found};
-use sheet::{Caps, placed};
+use sheet::{Grid, placed};
 
 // The lowest window that is wasted, and the lowest seat below its cap there, counted from 0.
 #[derive(Clone, Copy)]
@@ -16,7 +16,7 @@ pub enum Waste {
 }
 
 // The lowest seat that is below its cap in a window.
-fn seat_below(cells: &Caps, caps: &Caps, seats: usize, window: usize) -> Found
+fn seat_below(cells: &Grid, caps: &Grid, seats: usize, window: usize) -> Found
     requires { (seats ≤ 32) × (window < 24) }
     ensures { found result ≡ lowest_below cells.now caps.now seats window }
 {
@@ -31,7 +31,7 @@ fn seat_below(cells: &Caps, caps: &Caps, seats: usize, window: usize) -> Found
 }
 
 // Paper 01's mark 1, or that the sheet is not wasteful.
-pub fn wasted(book: Book, caps: &Caps, cells: &Caps) -> Waste
+pub fn wasted(book: Book, caps: &Grid, cells: &Grid) -> Waste
     requires { (book.seats ≤ 32) × (book.windows ≤ 24) }
     ensures { Tells (book_in book caps.now) (cells_in book cells.now) result }
 {

@@ -3,7 +3,7 @@
 use mathlib.Core.Bool.{Bool, false, not}
 use mathlib.Core.List.{List, [], ◌++◌, append_assoc, append-nil}
 use mathlib.Core.Logic.{⊎_elim, ◌⊎◌, inl, inr}
-use mathlib.Core.Option.{Option, none, some}
+use Rattle.std.specs.Prelude.{Option, None, Some}
 use mathlib.Core.Path.{◌≡◌, refl, sym, ◌∙◌, ap}
 use Prim.Native.Nat.{ℕ, zero, suc, ◌+◌, ◌-◌, ◌*◌, ◌≤◌, ◌<◌}
 use native.Mathlib.Decide.{dec_lt}
@@ -39,7 +39,7 @@ module _ (low high : ℕ) (rising : Bool) where
       (wrong-same low high rising (λ k. get_or xs k 0) (λ k. get_or (sized n xs) k 0) n (λ k h. sym (sized-at n xs k h))
       ∙ ap (λ (k : ℕ). lowest k (wrong (sized n xs))) (sym (sized-length n xs)))
 
-  pub wrong-nil : (at : ℕ) → wrong_in [] at low high rising ≡ none
+  pub wrong-nil : (at : ℕ) → wrong_in [] at low high rising ≡ None
   unfolding wrong_in lowest
   wrong-nil at = refl
 
@@ -68,20 +68,20 @@ module _ (low high : ℕ) where
           ap (out (a ++ b)) {x = j} {y = length a + k} (omega arith) ∙ right a b k ∙ q k (omega arith)
 
   -- none in a list whose first field stands at `at`
-  fails : (at : ℕ) (a : List ℕ) → outside_in a at low high ≡ none → Fails (length a) (out a)
+  fails : (at : ℕ) (a : List ℕ) → outside_in a at low high ≡ None → Fails (length a) (out a)
   unfolding wrong_in
   fails at a e = lowest-none (length a) (out a) (offset-none (λ i. at + 2 * i) (lowest (length a) (out a)) e)
 
-  pub outside-none-more : (at : ℕ) (a b : List ℕ) → outside_in a at low high ≡ none → outside_in b (at + 2 * length a) low high ≡ none
-      → outside_in (a ++ b) at low high ≡ none
+  pub outside-none-more : (at : ℕ) (a b : List ℕ) → outside_in a at low high ≡ None → outside_in b (at + 2 * length a) low high ≡ None
+      → outside_in (a ++ b) at low high ≡ None
   unfolding wrong_in
   outside-none-more at a b p q =
       let all = clear a b (length b) (fails at a p) (fails (at + 2 * length a) b q) in
       ap (offset (λ i. at + 2 * i))
       (ap (λ (n : ℕ). lowest n (out (a ++ b))) (length-append a b) ∙ lowest-fails (length a + length b) (out (a ++ b)) all)
 
-  pub outside-some-more : (at : ℕ) (a b d : List ℕ) (p : ℕ) → outside_in a at low high ≡ none
-      → outside_in b (at + 2 * length a) low high ≡ some p → outside_in ((a ++ b) ++ d) at low high ≡ some p
+  pub outside-some-more : (at : ℕ) (a b d : List ℕ) (p : ℕ) → outside_in a at low high ≡ None
+      → outside_in b (at + 2 * length a) low high ≡ Some p → outside_in ((a ++ b) ++ d) at low high ≡ Some p
   unfolding wrong_in
   outside-some-more at a b d p h k =
       let o = offset-some (λ i. at + 2 * length a + 2 * i) (lowest (length b) (out b)) p k in
@@ -99,7 +99,7 @@ module _ (low high : ℕ) where
       } in
       let e = o.2 in
       ap (offset (λ i. at + 2 * i)) (lowest-is (length all) (out all) (length a + i) found)
-      ∙ ap some {x = at + 2 * (length a + i)} {y = p} (omega arith)
+      ∙ ap Some {x = at + 2 * (length a + i)} {y = p} (omega arith)
 
 -- ---- a grid, row by row
 
@@ -141,15 +141,15 @@ module _ (low high at m : ℕ) (g : Grid) where
   row_at : (i : ℕ) → outside_in (sized m (get_or g i [])) (at + 2 * length (flat (sized_grid i m g))) low high ≡ row i
   row_at i = ap (λ (k : ℕ). outside_in (sized m (get_or g i [])) (at + 2 * k) low high) (sized-flat-length i m g)
 
-  pub rows-first : rows 0 ≡ none
+  pub rows-first : rows 0 ≡ None
   rows-first = ap (λ (xs : List ℕ). outside_in xs at low high) (sym (sized-flat-none m g)) ∙ wrong-nil low high false at
 
-  pub rows_more : (i : ℕ) → rows i ≡ none → row i ≡ none → rows (i + 1) ≡ none
+  pub rows_more : (i : ℕ) → rows i ≡ None → row i ≡ None → rows (i + 1) ≡ None
   rows_more i h k =
       ap (λ (xs : List ℕ). outside_in xs at low high) (sized-flat-more i m g)
       ∙ outside-none-more low high at (flat (sized_grid i m g)) (sized m (get_or g i [])) h (row_at i ∙ k)
 
-  pub rows-found : (i n p : ℕ) → i < n → rows i ≡ none → row i ≡ some p → rows n ≡ some p
+  pub rows-found : (i n p : ℕ) → i < n → rows i ≡ None → row i ≡ Some p → rows n ≡ Some p
   rows-found i n p l h k =
       let r = rows_behind i (n - (i + 1)) m g in
       ap rows {x = n} {y = i + 1 + (n - (i + 1))} (omega arith)

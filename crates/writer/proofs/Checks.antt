@@ -2,7 +2,7 @@
 -- Assumes nothing.
 use mathlib.Core.Bool.{Bool, true, false, not, ◌&&◌}
 use mathlib.Core.List.{List, [], ◌∷◌, ◌++◌, append_assoc}
-use mathlib.Core.Option.{Option, none, some}
+use Rattle.std.specs.Prelude.{Option, None, Some}
 use mathlib.Core.Path.{◌≡◌, refl, sym, ◌∙◌, ap, ap₂}
 use Prim.Native.Nat.{ℕ, ◌+◌, ◌*◌, ◌%◌, ◌≤◌, ◌<◌}
 use native.Mathlib.Decide.{dec_le}
@@ -94,10 +94,10 @@ module _ (ps : List Part) (k n low high : ℕ) (rising : Bool) (at : ℕ) (here 
   body-line : (r : Option ℕ) (o : Option (List ℕ)) → BodyAt ps k r o → IfThere (λ xs. length xs ≡ n) o
       → and_then r (wrong_fields (assemble (length ps) ps) n low high rising) ≡ and_then o (λ xs. wrong_in xs at low high rising)
   unfolding wrong_fields
-  body-line none none h l = refl
-  body-line none (some xs) h l = absurd h
-  body-line (some e) none h l = absurd h
-  body-line (some e) (some xs) h l =
+  body-line None None h l = refl
+  body-line None (Some xs) h l = absurd h
+  body-line (Some e) None h l = absurd h
+  body-line (Some e) (Some xs) h l =
       let f : List ℕ = assemble (length ps) ps in
       let body = ap length h.1 ∙ l in
       let long : size f e ≡ 2 * n = size_is (length ps) ps refl e h.0 ∙ ap (λ (i : ℕ). 2 * i) body in
@@ -186,7 +186,7 @@ module _ (d : Day) where
   eight = ap line8 (sym file-is) ∙ size-line 1 24 m size-windows
 
   -- the bounds that lines 7 and 8 let pass
-  pub counts-pass : first_of (line 7 (line7 (file_in d)) ∷ line 8 (line8 (file_in d)) ∷ []) ≡ none
+  pub counts-pass : first_of (line 7 (line7 (file_in d)) ∷ line 8 (line8 (file_in d)) ∷ []) ≡ None
       → (d.book.seats ≤ 32) × (d.book.windows ≤ 24)
   counts-pass e =
       let h = none-holds (line 7 (line7 (file_in d)) ∷ line 8 (line8 (file_in d)) ∷ []) e in (
@@ -280,12 +280,12 @@ module _ (m : Memory.Book) (caps : Grid) (t : Bool) (sheet : Grid) where
 
   -- the first seat is one number
   one-there : (u : Bool) → when u (sized 1 (m.first ∷ [])) ≡ one_if (when u m.first)
-  one-there true = ap some (sized-one m.first)
+  one-there true = ap Some (sized-one m.first)
   one-there false = refl
 
   one-long : (o : Option ℕ) → IfThere (λ xs. length xs ≡ 1) (one_if o)
-  one-long none = tt
-  one-long (some x) = refl
+  one-long None = tt
+  one-long (Some x) = refl
 
   -- line 18 by what the code has at hand
   pub first-told : {at k : ℕ} → at ≡ contents_end (entries (slots_of m t))
@@ -363,13 +363,13 @@ module _ (d : Day) where
   lines_of = line 7 (line7 (file_in d)) ∷ line 8 (line8 (file_in d)) ∷ (value_lines (file_in d) ++ option_lines (file_in d))
 
   -- group by group
-  pub stop-counts : {q : Refusal} → first_of counts ≡ some q → first_of lines_of ≡ some q
+  pub stop-counts : {q : Refusal} → first_of counts ≡ Some q → first_of lines_of ≡ Some q
   stop-counts {q} e = stop-in counts (value_lines whole ++ option_lines whole) q e
 
-  pub stop-values : {q : Refusal} → first_of counts ≡ none → first_of (value_lines (file_in d)) ≡ some q → first_of lines_of ≡ some q
+  pub stop-values : {q : Refusal} → first_of counts ≡ None → first_of (value_lines (file_in d)) ≡ Some q → first_of lines_of ≡ Some q
   stop-values {q} e h = on-after counts (value_lines whole ++ option_lines whole) e ∙ stop-in (value_lines whole) (option_lines whole) q h
 
-  pub go_on : first_of counts ≡ none → first_of (value_lines (file_in d)) ≡ none → first_of lines_of ≡ first_of (option_lines (file_in d))
+  pub go_on : first_of counts ≡ None → first_of (value_lines (file_in d)) ≡ None → first_of lines_of ≡ first_of (option_lines (file_in d))
   go_on e h = on-after counts (value_lines whole ++ option_lines whole) e ∙ on-after (value_lines whole) (option_lines whole) h
 
   lines_are : (room : ℕ) → write_lines whole room ≡ lines_of ++ buffer_lines room (length whole)
@@ -377,7 +377,7 @@ module _ (d : Day) where
   lines_are room =
       ap (λ (ls : List Line). counts ++ ls) (sym (append_assoc (value_lines whole) (option_lines whole) (buffer_lines room (length whole))))
 
-  pub lines-pass : first_of lines_of ≡ none → (d.book.seats ≤ 32) × (d.book.windows ≤ 24)
+  pub lines-pass : first_of lines_of ≡ None → (d.book.seats ≤ 32) × (d.book.windows ≤ 24)
   lines-pass e = counts-pass d (none-parts counts (value_lines whole ++ option_lines whole) e).0
 
   -- what `write` ensures
@@ -385,23 +385,23 @@ module _ (d : Day) where
   Answer buf end r = Writes (write_lines (file_in d)) (file_in d) buf end r
 
   -- a line ahead of 16 holds
-  pub early : (buf : List ℕ) {n p : ℕ} → first_of lines_of ≡ some (refuse n p) → Answer buf buf (Written.TheVariants.Refused n p)
+  pub early : (buf : List ℕ) {n p : ℕ} → first_of lines_of ≡ Some (refuse n p) → Answer buf buf (Written.TheVariants.Refused n p)
   early buf {n} {p} e =
       writes-refused (write_lines whole) whole buf n p
       (ap first_of (lines_are (length buf)) ∙ stop-in lines_of (buffer_lines (length buf) (length whole)) (refuse n p) e)
 
-  late : (room : ℕ) → first_of lines_of ≡ none → first_of (write_lines whole room) ≡ first_of (buffer_lines room (length whole))
+  late : (room : ℕ) → first_of lines_of ≡ None → first_of (write_lines whole room) ≡ first_of (buffer_lines room (length whole))
   late room e = ap first_of (lines_are room) ∙ on-after lines_of (buffer_lines room (length whole)) e
 
   -- 16 holds
-  pub no_room : (buf : List ℕ) {k : ℕ} → first_of lines_of ≡ none → k ≡ length (file_in d) → length buf < k
+  pub no_room : (buf : List ℕ) {k : ℕ} → first_of lines_of ≡ None → k ≡ length (file_in d) → length buf < k
       → Answer buf buf (Written.TheVariants.Refused 16 k)
   no_room buf {k} e q h =
       writes-refused (write_lines whole) whole buf 16 k
-      (late (length buf) e ∙ room-short (length buf) (length whole) (omega arith) ∙ ap (λ (x : ℕ). some (refuse 16 x)) (sym q))
+      (late (length buf) e ∙ room-short (length buf) (length whole) (omega arith) ∙ ap (λ (x : ℕ). Some (refuse 16 x)) (sym q))
 
   -- no line holds
-  pub enough : (buf end : List ℕ) {k : ℕ} → first_of lines_of ≡ none → k ≡ length (file_in d) → k ≤ length buf
+  pub enough : (buf end : List ℕ) {k : ℕ} → first_of lines_of ≡ None → k ≡ length (file_in d) → k ≤ length buf
       → end ≡ front (file_in d) buf → Answer buf end (Written.TheVariants.Whole k)
   enough buf end {k} e q h f =
       writes-whole (write_lines whole) whole buf end k (late (length buf) e ∙ room-enough (length buf) (length whole) (omega arith)) q f

@@ -1,6 +1,6 @@
 -- What the writer searches in memory for the lines of values.
 use Rattle.std.specs.Prelude.{Bool, false, not, List, ℕ, ◌+◌, ◌*◌, length, get_or}
-use Rattle.std.proofs.Math.Option.{Option}
+use Rattle.std.specs.Prelude.{Option}
 use Rattle.model.specs.Lowest.{lowest}
 use Rattle.dayfile.specs.Table.{offset, number_right}
 

@@ -1,5 +1,5 @@
 -- `cells::first_over` meets its contract: no window passed yet is over its supply.
-use mathlib.Core.Option.{some}
+use Rattle.std.specs.Prelude.{Some}
 use mathlib.Core.Path.{ap, ◌∙◌}
 use Prim.Native.Nat.{ℕ, ◌+◌, ◌*◌}
 use Rattle.dayfile.specs.Table.{offset}
@@ -16,7 +16,7 @@ unfolding first_over
 returns-then-field-placed c =
     let at = c.start-at.ensures.0 in
     let test = is_below (supply-at _ _ at c.field.ensures.0) c.placed.ensures c.if-field-placed.true in
-    ap some (ap (λ (a : ℕ). a + 2 * c.loop-j.j) at)
+    ap Some (ap (λ (a : ℕ). a + 2 * c.loop-j.j) at)
     ∙ ap (offset _) (search-hit c.loop-j.invariant c.loop-j-test.true test)
 
 pub loop-j-preserved : goal.loop-j-preserved

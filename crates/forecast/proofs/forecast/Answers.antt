@@ -1,6 +1,6 @@
 -- `forecast::forecast` meets its contract: what is read and added up.
 use mathlib.Core.Path.{◌≡◌, ◌∙◌}
-use mathlib.Core.Option.{none}
+use Rattle.std.specs.Prelude.{None}
 use Rattle.dayfile.specs.Bounds.{Fit}
 use Rattle.dayfile.specs.Layout.{book_of}
 use Rattle.dayfile.specs.Table.{first_of, read_lines, idle_lines}
@@ -21,7 +21,7 @@ returns-in-Refused c =
 
 -- ---- no line of the reader's holds
 
-accepted : (c : In_default) → first_of (read_lines c.args.file.now) ≡ none
+accepted : (c : In_default) → first_of (read_lines c.args.file.now) ≡ None
 accepted c = read-sound _ _ c.read-reading.ensures c.in_default.is
 
 -- the file's book is in memory, its caps as an array of arrays

@@ -1,6 +1,6 @@
 -- `fulfil::fulfil` meets its contract: what is read, granted and stored.
 use mathlib.Core.Path.{◌≡◌, sym, subst}
-use mathlib.Core.Option.{none}
+use Rattle.std.specs.Prelude.{None}
 use Rattle.model.specs.Book.{Grid}
 use Rattle.dayfile.specs.Bounds.{Fit}
 use Rattle.dayfile.specs.Table.{first_of, read_lines}
@@ -18,7 +18,7 @@ pub returns-in-Refused : goal.returns-in-Refused
 returns-in-Refused c = fulfil-refused _ _ _ _ _ (read-refused _ _ c.read-reading.ensures c.in-Refused.is)
 
 -- no line of the reader's holds
-free : (c : In_default) → first_of (read_lines c.args.file.now) ≡ none
+free : (c : In_default) → first_of (read_lines c.args.file.now) ≡ None
 free c = read-sound _ _ c.read-reading.ensures c.in_default.is
 
 -- the book fits, with its caps as an array of arrays

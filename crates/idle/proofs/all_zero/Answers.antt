@@ -1,6 +1,6 @@
 -- `idle::all_zero` meets its contract: no cap passed yet is above 0.
 use mathlib.Core.Bool.{not}
-use mathlib.Core.Option.{Option}
+use Rattle.std.specs.Prelude.{Option}
 use mathlib.Core.Path.{refl, ap}
 use Prim.Native.Nat.{ℕ}
 use borrow.Author.Tests.{eq-eqb, ne_eqb}

@@ -17,9 +17,9 @@ pub loop-r-init : goal.loop-r-init
 loop-r-init c =
     let f = c.requires.0 in
     let few : c.args.count ≤ 31 = omega (arith, f.small) in
-    let none = stored-none (replicate 31 (record { window = 0; giver = 0; taker = 0 })) c.args.count few in
+    let None = stored-none (replicate 31 (record { window = 0; giver = 0; taker = 0 })) c.args.count few in
     let fits : Fits w32 (set_at c.args.sets c.args.count) = search rules in
-    (refl, (omega arith, (in_small _ _ fits.fits f.here, (f, rw none refl))))
+    (refl, (omega arith, (in_small _ _ fits.fits f.here, (f, rw None refl))))
 
 pub offset_bounds-sets-r : goal.offset_bounds-sets-r
 offset_bounds-sets-r c =

@@ -1,7 +1,7 @@
 -- `planner::plan` meets its contract: what is read, planned and written.
 use mathlib.Core.Path.{◌≡◌, ap, ◌∙◌}
 use mathlib.Core.Bool.{true}
-use mathlib.Core.Option.{none}
+use Rattle.std.specs.Prelude.{None}
 use native.Mathlib.Nat.{le_trans, le_of_eq}
 use lib.ListN.{length}
 use Rattle.dayfile.specs.Bounds.{Fit}
@@ -23,7 +23,7 @@ returns-in-Refused c =
 
 -- ---- no line of the reader's holds
 
-accepted : (c : In_default) → first_of (read_lines c.args.file.now) ≡ none
+accepted : (c : In_default) → first_of (read_lines c.args.file.now) ≡ None
 accepted c = read-sound _ _ c.read-reading.ensures c.in_default.is
 
 -- the file's book is in memory, its caps as an array of arrays

@@ -13,8 +13,8 @@ pub receiver-preserved-then-wanted-eq0 : goal.receiver-preserved-then-wanted-eq0
 receiver-preserved-then-wanted-eq0 c =
     let at = c.receiver in
     let a = c.args in
-    let none = none-wanted a.kind a.scores a.graph a.seats at.g _ c.wanted_by-wanted.ensures c.if-wanted-eq0.true in
-    (search rules, (at.invariant.1.0, below_more _ _ at.invariant.1.1 none))
+    let None = none-wanted a.kind a.scores a.graph a.seats at.g _ c.wanted_by-wanted.ensures c.if-wanted-eq0.true in
+    (search rules, (at.invariant.1.0, below_more _ _ at.invariant.1.1 None))
 
 pub reached-init : goal.reached-init
 reached-init c =
@@ -71,8 +71,8 @@ receiver-preserved c =
     let at = c.reached in
     let outer = c.receiver in
     let a = c.args in
-    let none = last a.graph outer.g _ _ _ _ at.invariant.1 c.reached-test.false in
-    let fails = none-reached a.kind a.scores a.graph a.seats outer.g _ c.wanted_by-wanted.ensures none in
+    let None = last a.graph outer.g _ _ _ _ at.invariant.1 c.reached-test.false in
+    let fails = none-reached a.kind a.scores a.graph a.seats outer.g _ c.wanted_by-wanted.ensures None in
     (search rules, (at.invariant.0, below_more _ _ outer.invariant.1.1 fails))
 
 pub returns-after-receiver : goal.returns-after-receiver
@@ -89,6 +89,6 @@ returns-then-intersect-ne0 c =
     let donor = next c.minus-new.ensures c.intersect.ensures (omega arith) (search rules) in
     record {
       seat = c.receiver-test.true;
-      some = (donor.0, (donor.1.0, (c.wanted_by-wanted.ensures donor.0).0 donor.1.1));
+      Some = (donor.0, (donor.1.0, (c.wanted_by-wanted.ensures donor.0).0 donor.1.1));
       earlier = λ h k b d. outer.invariant.1.1 h b k d;
     }

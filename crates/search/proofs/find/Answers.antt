@@ -20,12 +20,12 @@ path_to-requires-in-Between-first_pair c =
 
 pub returns-in-Between-first_pair : goal.returns-in-Between-first_pair
 returns-in-Between-first_pair c =
-    let none = rw c.in_default.is at c.first_pair.ensures in
+    let None = rw c.in_default.is at c.first_pair.ensures in
     let f = c.in-Between-first_pair.ensures in
-    tied _ _ _ _ _ _ none f c.path_to-in-Between-first_pair.ensures
+    tied _ _ _ _ _ _ None f c.path_to-in-Between-first_pair.ensures
 
 pub returns : goal.returns
 returns c =
-    let none = rw c.in_default.is at c.first_pair.ensures in
+    let None = rw c.in_default.is at c.first_pair.ensures in
     let none-tied = rw c.in_default-first_pair.is at c.first_pair-2.ensures in
-    neither _ _ _ _ c.no_path.ensures none none-tied
+    neither _ _ _ _ c.no_path.ensures None none-tied

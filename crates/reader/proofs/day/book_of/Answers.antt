@@ -1,5 +1,5 @@
 use mathlib.Core.List.{[]}
-use mathlib.Core.Option.{Option, some}
+use Rattle.std.specs.Prelude.{Option, Some}
 use mathlib.Core.Path.{refl, ◌∙◌, ap, ap₂}
 use Prim.Native.Nat.{ℕ}
 use Rattle.model.specs.Lowest.{and_then, value_or, is_some}
@@ -22,11 +22,11 @@ returns c =
       supplies = c.array24-supplies.ensures
           ∙ ap₂ (λ (c i : ℕ). sized 24 (fields_at f c i)) c.start-2.ensures.0 c.windows-windows.ensures.0;
       has_first = c.is_there-has_first.ensures ∙ ap is_some k ∙ there-as (λ e. field f (start f e)) (entry_of f 5);
-      first = c.field_of-first.ensures ∙ ap (λ (o : Option ℕ). value_or (and_then o (λ e. some (field f (start f e)))) 0) k;
+      first = c.field_of-first.ensures ∙ ap (λ (o : Option ℕ). value_or (and_then o (λ e. Some (field f (start f e)))) 0) k;
       has_balances = c.is_there-has_balances.ensures ∙ ap is_some j ∙ there-as (λ e. fields_at f (start f e) _) (entry_of f 6);
       balances = c.list_of.ensures 32 refl
-          ∙ ap₂ (λ (o : Option ℕ) (i : ℕ). sized 32 (value_or (and_then o (λ e. some (fields_at f (start f e) i))) [])) j n;
+          ∙ ap₂ (λ (o : Option ℕ) (i : ℕ). sized 32 (value_or (and_then o (λ e. Some (fields_at f (start f e) i))) [])) j n;
       has_weights = c.is_there-has_weights.ensures ∙ ap is_some i ∙ there-as (λ e. fields_at f (start f e) _) (entry_of f 7);
       weights = c.list_of-2.ensures 8 refl
-          ∙ ap (λ (o : Option ℕ). sized 8 (value_or (and_then o (λ e. some (fields_at f (start f e) 8))) [])) i;
+          ∙ ap (λ (o : Option ℕ). sized 8 (value_or (and_then o (λ e. Some (fields_at f (start f e) 8))) [])) i;
     }

@@ -1,5 +1,5 @@
 use mathlib.Core.List.{[]}
-use mathlib.Core.Option.{Option, some}
+use Rattle.std.specs.Prelude.{Option, Some}
 use mathlib.Core.Path.{◌∙◌, ap, sym}
 use Prim.Native.Nat.{ℕ}
 use Rattle.model.specs.Lowest.{and_then, value_or, is_some}
@@ -27,5 +27,5 @@ returns c =
       has_weights_is = c.book_of-book.ensures.has_weights;
       weights_are = c.book_of-book.ensures.weights;
       has_sheet_is = c.is_there-has_sheet.ensures ∙ ap is_some k ∙ there-as (grid_in f) (entry_of f 4);
-      sheet_is = c.sheet_of-sheet.ensures ∙ ap (λ (o : Option ℕ). held (value_or (and_then o (λ c. some (grid_in f c))) [])) k;
+      sheet_is = c.sheet_of-sheet.ensures ∙ ap (λ (o : Option ℕ). held (value_or (and_then o (λ c. Some (grid_in f c))) [])) k;
     }

@@ -1,5 +1,5 @@
 use mathlib.Core.List.{List}
-use mathlib.Core.Option.{Option, some}
+use Rattle.std.specs.Prelude.{Option, Some}
 use mathlib.Core.Path.{◌∙◌, ap, sym}
 use Prim.Native.Nat.{ℕ}
 use Rattle.model.specs.Lowest.{and_then, value_or}
@@ -11,7 +11,7 @@ use Rattle.reader.proofs.day.field_of.Goals as goal
 
 -- the field by its entry
 abbrev field_by : List ℕ → Option ℕ → ℕ
-field_by f o = value_or (and_then o (λ e. some (field f (start f e)))) 0
+field_by f o = value_or (and_then o (λ e. Some (field f (start f e)))) 0
 
 pub start-requires : goal.start-requires
 start-requires c = under_at 65536 c.requires c.in-At.is

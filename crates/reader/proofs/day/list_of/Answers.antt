@@ -1,5 +1,5 @@
 use mathlib.Core.List.{List, []}
-use mathlib.Core.Option.{Option, some}
+use Rattle.std.specs.Prelude.{Option, Some}
 use mathlib.Core.Path.{◌∙◌, ap, sym}
 use Prim.Native.Nat.{ℕ}
 use native.Mathlib.Omega.{arith}
@@ -13,7 +13,7 @@ use Rattle.reader.proofs.day.list_of.Goals as goal
 
 -- the numbers by their entry
 abbrev list_by : List ℕ → ℕ → ℕ → Option ℕ → List ℕ
-list_by f n l o = sized l (value_or (and_then o (λ e. some (fields_at f (start f e) n))) [])
+list_by f n l o = sized l (value_or (and_then o (λ e. Some (fields_at f (start f e) n))) [])
 
 pub start-requires : goal.start-requires
 start-requires c =

@@ -1,5 +1,5 @@
 use mathlib.Core.List.{List, []}
-use mathlib.Core.Option.{Option, some}
+use Rattle.std.specs.Prelude.{Option, Some}
 use mathlib.Core.Path.{◌∙◌, ap, sym}
 use Prim.Native.Nat.{ℕ}
 use Rattle.model.specs.Lowest.{and_then, value_or}
@@ -12,7 +12,7 @@ use Rattle.reader.proofs.day.sheet_of.Goals as goal
 
 -- the sheet by its entry
 abbrev sheet_by : List ℕ → Option ℕ → Grid
-sheet_by f o = held (value_or (and_then o (λ e. some (grid_in f e))) [])
+sheet_by f o = held (value_or (and_then o (λ e. Some (grid_in f e))) [])
 
 pub grid_of-requires : goal.grid_of-requires
 grid_of-requires c = under_at 65536 c.requires c.in-At.is

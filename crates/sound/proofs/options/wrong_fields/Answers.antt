@@ -1,6 +1,6 @@
 use mathlib.Core.Bool.{Bool, not}
 use mathlib.Core.List.{List}
-use mathlib.Core.Option.{Option, some}
+use Rattle.std.specs.Prelude.{Option, Some}
 use mathlib.Core.Path.{◌≡◌, ◌∙◌, ap, sym}
 use Prim.Native.Nat.{ℕ, ◌*◌}
 use borrow.Author.Tests.{eq-eqb, ne_eqb}
@@ -14,7 +14,7 @@ module _ (f : List ℕ) (n low high : ℕ) (rising : Bool) (e : ℕ) where
   abbrev value : Option ℕ
   value = wrong_field f (start f e) n low high rising
 
-  wrong-length : (size f e ≡ 2 * n → ⊥) → some (size_at e) ≡ wrong_fields f n low high rising e
+  wrong-length : (size f e ≡ 2 * n → ⊥) → Some (size_at e) ≡ wrong_fields f n low high rising e
   unfolding wrong_fields
   wrong-length h = sym (ap (λ (t : Bool). or_else (when (not t) (size_at e)) value) (ne_eqb (size f e) (2 * n) h))
 

@@ -1,5 +1,5 @@
 use mathlib.Core.Bool.{not}
-use mathlib.Core.Option.{none}
+use Rattle.std.specs.Prelude.{None}
 use mathlib.Core.Path.{refl, sym, ◌∙◌, ap}
 use Rattle.model.specs.Lowest.{when}
 use Rattle.dayfile.specs.Table.{within}
@@ -10,6 +10,6 @@ use Rattle.writer.proofs.lines.check_counts.Goals as goal
 
 pub returns : goal.returns
 returns c = λ d e.
-    three-as 7 {c = none} c.first_of.ensures
+    three-as 7 {c = None} c.first_of.ensures
     (c.outside_at.ensures ∙ ap (λ (x : Book). when (not (within 1 32 x.seats)) 6) (sym e) ∙ sym (seven d))
     (c.outside_at-2.ensures ∙ ap (λ (x : Book). when (not (within 1 24 x.windows)) 12) (sym e) ∙ sym (eight d)) refl
