@@ -1,6 +1,5 @@
 -- A pass over the cells in reading order, in each turn a cycle that raises the cell. Assumes nothing.
 use mathlib.Core.Path.{◌≡◌, sym, ap, ◌∙◌, subst, fun_ext}
-use mathlib.Core.Bool.{Bool, true, false}
 use mathlib.Core.List.{List, ◌∷◌}
 use Prim.Native.Nat.{ℕ, ◌+◌, ◌-◌, ◌<◌}
 use native.Mathlib.Numerals.{add-one}
@@ -22,16 +21,7 @@ use Rattle.instance.proofs.Told.{small-proper}
 use Rattle.settle.specs.Playing.{AllPlayable, Plays}
 use Rattle.settle.proofs.Playing.{all-playable}
 use Rattle.climb.specs.declared.Cycle.{Cycle}
-use Rattle.climb.specs.Cycles.{cycle_moves, Raising, Finds, Climbed}
-
--- ---- what the search answers
-
-module _ (I : Instance) (S : Sheet) (i j : ℕ) (c : Cycle) (finds : Finds I S i j c.found c) where
-  pub raises : c.found ≡ true → Raising I S i j c
-  raises e = subst (λ (b : Bool). Finds I S i j b c) e finds
-
-  pub raised : c.found ≡ false → Topmost I S i j
-  raised e = subst (λ (b : Bool). Finds I S i j b c) e finds
+use Rattle.climb.specs.Cycles.{cycle_moves, Raising, Climbed}
 
 -- ---- a grid that the closing move is played on as a sheet
 

@@ -61,11 +61,11 @@ module _ (t : Terms) (caps grid : Grid) (i j : ℕ) where
 
     pub first : i < 32 → DrawnTo (i + 1) (set (replicate 32 0) i own) (replicate 24 0)
     first li =
-        let None = rows_none (HasRoom T J.cap t.windows) i 32 (λ k w l h. omega (arith, h.1, earlier-cap I S i j k w l)) in
+        let none = rows_none (HasRoom T J.cap t.windows) i 32 (λ k w l h. omega (arith, h.1, earlier-cap I S i j k w l)) in
         record {
           after = omega arith;
           rooms-long = simp length-set;
-          rooms_are = rows_next _ i (replicate 32 0) None li own itself;
+          rooms_are = rows_next _ i (replicate 32 0) none li own itself;
           holders-long = refl;
           holders_are = held_first T t.windows (i + 1) 24 (λ k w l. other-cell I S i j k w (omega arith));
         }

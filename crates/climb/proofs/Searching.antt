@@ -1,6 +1,6 @@
 -- The search for a cycle, on the graph of the later seats and on the grid. Assumes nothing.
-use mathlib.Core.Path.{◌≡◌, refl, sym, ◌∙◌, subst}
-use mathlib.Core.Bool.{Bool, true, false}
+use mathlib.Core.Path.{◌≡◌, refl, sym, ◌∙◌}
+use Rattle.std.specs.Prelude.{Option, None, Some}
 use mathlib.Core.Logic.{◌↔◌}
 use mathlib.Core.List.{List}
 use Prim.Native.Nat.{ℕ, ◌+◌, ◌-◌, ◌≤◌, ◌<◌, min}
@@ -12,13 +12,12 @@ use Rattle.fairness.specs.Instance.{Instance, Proper, Sheet}
 use Rattle.fairness.specs.Exchange.{Possible, Settled}
 use Rattle.fairness.specs.Raising.{Topmost, closing, later_sheet, later_seats}
 use Rattle.fairness.proofs.Decide.{keep-no}
-use Rattle.fairness.proofs.Standard.{capped-topmost, blocked-topmost, closed-blocked, later-raises}
+use Rattle.fairness.proofs.Standard.{blocked-topmost, closed-blocked, later-raises}
 use Rattle.fairness.proofs.Standard.{later-cell, later-cap, earlier-cap, own-cap}
 use Rattle.masks.specs.Sets.{bit, In, Inserted, Full}
 use Rattle.masks.proofs.Laws.{bit-lt, bit-zero}
 use Rattle.reach.specs.declared.Graph.{Graph}
 use Rattle.reach.specs.Graphs.{set_at, Collects, Through, UnionOver, Reached}
-use Rattle.paths.specs.declared.Kind.TheVariants.{None}
 use Rattle.paths.specs.Layers.{Meets}
 use Rattle.paths.specs.Paths.{moves_of}
 use Rattle.paths.specs.Steps.{Drawn}
@@ -66,30 +65,20 @@ module _ (graph : Graph) (i goals seats all both : ℕ)
     (union : UnionOver seats graph.rooms all)
     (meet : (k : ℕ) → bit both k ≡ min (bit all k) (bit goals k)) where
   -- the seats that are reached have no room in a goal
-  pub no-goal : both ≡ 0 → (c : Cycle) → c.found ≡ false → CycleIn graph i goals c.found c
-  no-goal z c e = subst (λ (b : Bool). CycleIn graph i goals b c) (sym e) None
-    where
-      None : CycleIn graph i goals false c
-      None l q r room goal =
-          let joined = union.whole q (record { via = l; here = record { member = (reaches l).1 r; leads = room } }) in
-          omega (arith, joined, goal, rw z at (meet q), bit-zero q)
+  pub no-goal : both ≡ 0 → CycleIn graph i goals None
+  no-goal z l q r room goal =
+      let joined = union.whole q (record { via = l; here = record { member = (reaches l).1 r; leads = room } }) in
+      omega (arith, joined, goal, rw z at (meet q), bit-zero q)
 
   -- they have, in window q
   module _ (q : ℕ) (here : In q both) where
     pub goal-room : Through seats graph.rooms q
     goal-room = union.sound q (omega (arith, meet q, bit-lt all q))
 
-    pub goal-closes : (c : Cycle) → ClosesIn graph i q c → CycleIn graph i goals c.found c
-    goal-closes c h =
-        subst (λ (b : Bool). CycleIn graph i goals b c) (sym h.found) (q, (omega (arith, meet q, bit-lt goals q), h))
+    pub goal-closes : (c : Cycle) → ClosesIn graph i q c → CycleIn graph i goals (Some c)
+    goal-closes c h = (q, (omega (arith, meet q, bit-lt goals q), h))
 
 -- ---- on a grid
-
--- a cell at its cap
-pub capped-finds : (I : Instance) (S : Sheet) (i j : ℕ) → Proper I → Settled I S → i < I.seats → j < I.windows → I.cap i j ≤ S i j
-    → (c : Cycle) → c.found ≡ false → Finds I S i j c.found c
-capped-finds I S i j proper s li lj full c e =
-    subst (λ (b : Bool). Finds I S i j b c) (sym e) (capped-topmost I proper S s i j li lj full)
 
 module _ (I : Instance) (S : Sheet) (i j : ℕ) (graph : Graph) where
   abbrev J : Instance
@@ -105,14 +94,14 @@ module _ (I : Instance) (S : Sheet) (i j : ℕ) (graph : Graph) where
     module _ (proper : Proper I) (settled : Settled I S) (li : i < I.seats) (lj : j < I.windows)
         (goals : ℕ) (held : Collects I.windows (λ w. (j < w) × (0 < S i w)) goals) where
       none-topmost : ((l q : ℕ) → Reached graph i l → In q (set_at graph.rooms l) → In q goals → ⊥) → Topmost I S i j
-      none-topmost None =
+      none-topmost none =
           blocked-topmost I proper S settled _ i j li lj
           (closed-blocked I S i j (Reached graph i) li (0, refl) (reached-closed J T graph draws i) closes)
         where
           closes : (l q : ℕ) → Reached graph i l → i < l → j < q → Possible I S (closing i l q) → ⊥
           closes l q r b a p =
               let room : T l q < J.cap l q = omega (arith, p.room, later-cell I S i j l q b, later-cap I S i j l q b) in
-              None l q r ((shown.rooms_are l q).1 (p.in_taker, (p.in_window, room))) ((held q).1 (p.in_window, (a, p.has)))
+              none l q r ((shown.rooms_are l q).1 (p.in_taker, (p.in_window, room))) ((held q).1 (p.in_window, (a, p.has)))
 
       -- who has room in a window after j is a later seat
       later : (l q : ℕ) → j < q → T l q < J.cap l q → i < l
@@ -142,12 +131,9 @@ module _ (I : Instance) (S : Sheet) (i j : ℕ) (graph : Graph) where
                   rw h.window_is
                   (later-raises I S i j below-cap l q (moves_of c.path) (h.path.path J T draws) b giver.1.0
                   (record { in_window = giver.0; in_giver = li; in_taker = taker.0; has = giver.1.1; room = room }));
-              writable = writable J T graph draws few-seats few-windows None i l c.path li h.path;
+              writable = writable J T graph draws few-seats few-windows i l c.path h.path;
             }
 
-        answers : (found : Bool) (c : Cycle) → CycleIn graph i goals found c → Finds I S i j found c
-        answers true c (q, (goal, h)) = found-raises c q goal h
-        answers false c None = none-topmost None
-
-        pub finds : (c : Cycle) → CycleIn graph i goals c.found c → Finds I S i j c.found c
-        finds c = answers c.found c
+        pub finds : (found : Option Cycle) → CycleIn graph i goals found → Finds I S i j found
+        finds (Some c) (q, (goal, h)) = found-raises c q goal h
+        finds None none = none-topmost none

@@ -1,5 +1,5 @@
 -- Cycles of moves in memory, what the search for them answers, and how far a grid is raised.
-use Rattle.std.specs.Prelude.{◌≡◌, Bool, true, false, List, ◌∷◌, ℕ}
+use Rattle.std.specs.Prelude.{◌≡◌, Option, None, Some, List, ◌∷◌, ℕ}
 use Rattle.fairness.specs.Instance.{Instance, Sheet}
 use Rattle.fairness.specs.Exchange.{Move, Settled}
 use Rattle.fairness.specs.Raising.{Topmost, TopBefore, Raises}
@@ -7,9 +7,7 @@ use Rattle.masks.specs.Sets.{In}
 use Rattle.sheet.specs.Sheets.{move_of}
 use Rattle.reach.specs.declared.Graph.{Graph}
 use Rattle.reach.specs.Graphs.{set_at, Reached}
-use Rattle.paths.specs.declared.Kind.TheVariants.{None}
-use Rattle.paths.specs.Paths.{moves_of}
-use Rattle.paths.specs.Steps.{Nearest}
+use Rattle.paths.specs.Paths.{moves_of, Nearest}
 use Rattle.exchange.specs.Paths.{Writable}
 use Rattle.climb.specs.declared.Cycle.{Cycle}
 
@@ -17,16 +15,15 @@ use Rattle.climb.specs.declared.Cycle.{Cycle}
 
 -- a cycle that closes in window q: its path leads from seat i to a seat that has room there
 pub record ClosesIn (graph : Graph) (i q : ℕ) (c : Cycle) : Type 0 where
-  pub found : c.found ≡ true
   pub giver_is : c.closing.giver ≡ i
   pub window_is : c.closing.window ≡ q
   pub room : In q (set_at graph.rooms c.closing.taker)
-  pub path : Nearest None graph i c.closing.taker c.path
+  pub path : Nearest graph i c.closing.taker c.path
 
 -- a cycle that closes in one of the goals, or that there is none
-abbrev pub CycleIn : Graph → ℕ → ℕ → Bool → Cycle → Type 0
-CycleIn graph i goals true c = (q : ℕ) × (In q goals × ClosesIn graph i q c)
-CycleIn graph i goals false c = (l q : ℕ) → Reached graph i l → In q (set_at graph.rooms l) → In q goals → ⊥
+abbrev pub CycleIn : Graph → ℕ → ℕ → Option Cycle → Type 0
+CycleIn graph i goals (Some c) = (q : ℕ) × (In q goals × ClosesIn graph i q c)
+CycleIn graph i goals None = (l q : ℕ) → Reached graph i l → In q (set_at graph.rooms l) → In q goals → ⊥
 
 -- ---- on a grid
 
@@ -41,9 +38,9 @@ pub record Raising (I : Instance) (S : Sheet) (i j : ℕ) (c : Cycle) : Type 0 w
   pub writable : Writable c.path
 
 -- a cycle that raises it, or that nothing does
-abbrev pub Finds : Instance → Sheet → ℕ → ℕ → Bool → Cycle → Type 0
-Finds I S i j true c = Raising I S i j c
-Finds I S i j false c = Topmost I S i j
+abbrev pub Finds : Instance → Sheet → ℕ → ℕ → Option Cycle → Type 0
+Finds I S i j (Some c) = Raising I S i j c
+Finds I S i j None = Topmost I S i j
 
 -- settled, and every cell that is read before cell (i, j) is topmost
 pub record Climbed (I : Instance) (S : Sheet) (i j : ℕ) : Type 0 where

@@ -2,7 +2,7 @@
 // by one credit each, until there is none. They leave the cells before it as they are, so no cell is looked at again.
 #![tactic(auto)]
 
-ghost use Rattle.std.specs.Prelude.{◌≡◌, false, ℕ, ◌+◌, ◌≤◌, ◌<◌, get_or};
+ghost use Rattle.std.specs.Prelude.{ℕ, ◌+◌, ◌≤◌, ◌<◌, get_or};
 ghost use Rattle.fairness.specs.Exchange.{Settled};
 ghost use Rattle.fairness.specs.Standard.{Standard};
 ghost use Rattle.fairness.specs.Raising.{later_sheet, later_seats};
@@ -18,8 +18,8 @@ ghost use Rattle.climb.specs.Cycles.{ClosesIn, CycleIn, cycle_moves, Finds, Clim
 use exchange::{below, with_holder};
 use instance::Terms;
 use masks::{full, insert, intersect, lowest, minus};
-use paths::{ExchangePath, Kind, first_meeting, no_path, path_to};
-use reach::{Graph, reached, union_over};
+use paths::{Path, first_meeting};
+use reach::{Graph, union_over};
 use settle::play_path;
 use sheet::{Grid, Move, Sheet};
 
@@ -33,10 +33,8 @@ pub struct Place {
 // A cycle of moves: an exchange path from a seat to a donor, and the closing move, by which the seat gives that donor a credit.
 #[derive(Clone, Copy)]
 pub struct Cycle {
-    // Whether there is one.
-    pub found: bool,
     pub closing: Move,
-    pub path: ExchangePath,
+    pub path: Path,
 }
 
 // The windows after one in which a row has a credit.
@@ -70,83 +68,62 @@ fn later_graph(grid: &Grid, caps: &Grid, t: Terms, place: Place) -> Graph
     Graph { rooms, holders }
 }
 
-// No cycle.
-fn no_cycle() -> Cycle
-    ensures { result.found ≡ false }
-{
-    let none = Move {
-        window: 0,
-        giver: 0,
-        taker: 0,
-    };
-    Cycle {
-        found: false,
-        closing: none,
-        path: no_path(),
-    }
-}
-
-// A cycle that closes in a window: of the seats that are reached, the first with room there takes. A cycle changes no totals, so its path
-// is of no kind.
-fn closed_in(graph: Graph, seats: u32, giver: usize, window: usize) -> Cycle
+// A cycle that closes in a window: of the seats that are reached, the first with room there takes.
+fn closed_in(graph: &Graph, seats: u32, giver: usize, window: usize) -> Cycle
     requires giver_bound { (giver < 32) × (window < 32) }
-    requires by_index { (l : ℕ) → In l seats → Reached graph giver l }
-    requires through { Through seats graph.rooms window }
-    ensures { ClosesIn graph giver window result }
+    requires by_index { (l : ℕ) → In l seats → Reached graph.now giver l }
+    requires through { Through seats graph.now.rooms window }
+    ensures { ClosesIn graph.now giver window result }
 {
-    let rooms = graph.rooms;
-    let taker = first_meeting(seats, &rooms, insert(0, window));
-    let closing = Move {
-        window,
-        giver,
-        taker,
-    };
+    let taker = first_meeting(seats, &graph.rooms, insert(0, window));
     Cycle {
-        found: true,
-        closing,
-        path: path_to(Kind::None, graph, giver, taker),
+        closing: Move {
+            window,
+            giver,
+            taker,
+        },
+        path: Path::shortest(graph, giver, taker),
     }
 }
 
 // A cycle of a graph that closes in one of the goals, which are windows.
-fn cycle_in(graph: Graph, giver: usize, goals: u32) -> Cycle
+fn cycle_in(graph: &Graph, giver: usize, goals: u32) -> Option<Cycle>
     requires { giver < 32 }
-    ensures { CycleIn graph giver goals result.found result }
+    ensures { CycleIn graph.now giver goals result }
 {
-    let rooms = graph.rooms;
-    let seats = reached(graph, giver);
-    let windows = intersect(union_over(seats, &rooms), goals);
+    let seats = graph.reached(giver);
+    let windows = intersect(union_over(seats, &graph.rooms), goals);
     if windows == 0 {
-        return no_cycle();
+        return None;
     }
-    closed_in(graph, seats, giver, lowest(windows))
+    Some(closed_in(graph, seats, giver, lowest(windows)))
 }
 
 // A cycle that raises the cell at a place.
-fn find_cycle(grid: &Grid, caps: &Grid, t: Terms, place: Place) -> Cycle
+fn find_cycle(grid: &Grid, caps: &Grid, t: Terms, place: Place) -> Option<Cycle>
     requires small { Small t caps.now }
     requires settled { Settled (instance_in t caps.now) (cell grid.now) }
     requires seat_lt_seats { (place.seat < t.seats) × (place.window < t.windows) }
-    ensures { Finds (instance_in t caps.now) (cell grid.now) place.seat place.window result.found result }
+    ensures { Finds (instance_in t caps.now) (cell grid.now) place.seat place.window result }
 {
     let seat = place.seat;
     let window = place.window;
     if caps[seat][window] <= grid[seat][window] {
-        return no_cycle();
+        return None;
     }
     let goals = held_after(&grid[seat], t.windows, window);
-    cycle_in(later_graph(grid, caps, t, place), seat, goals)
+    cycle_in(&later_graph(grid, caps, t, place), seat, goals)
 }
 
 // The grid after the moves of a cycle, the closing move first.
-fn play_cycle(grid: Grid, cycle: Cycle) -> Grid
-    requires writable { Writable cycle.path }
-    requires all_playable { AllPlayable (cell grid) (cycle_moves cycle) }
-    ensures { Plays (cell grid) (cycle_moves cycle) (cell result) }
+fn play_cycle(grid: Grid, cycle: &Cycle) -> Grid
+    requires writable { Writable cycle.now.path }
+    requires all_playable { AllPlayable (cell grid) (cycle_moves cycle.now) }
+    ensures { Plays (cell grid) (cycle_moves cycle.now) (cell result) }
 {
     let before = Sheet::from_grid(grid);
     let closed = before.play(cycle.closing);
-    play_path(closed.to_grid(), cycle.path)
+    play_path(closed.to_grid(), &cycle.path)
 }
 
 // Raises the cell at a place as far as it goes.
@@ -156,12 +133,8 @@ fn raise_cell(grid: &mut Grid, caps: &Grid, t: Terms, place: Place)
     requires climbed { Climbed (instance_in t caps.now) (cell grid.old) place.seat place.window }
     ensures { Climbed (instance_in t caps.now) (cell grid.new) place.seat (place.window + 1) }
 {
-    loop {
-        let cycle = find_cycle(grid, caps, t, place);
-        if !cycle.found {
-            return;
-        }
-        *grid = play_cycle(*grid, cycle);
+    while let Some(cycle) = find_cycle(grid, caps, t, place) {
+        *grid = play_cycle(*grid, &cycle);
     }
 }
 

@@ -1,6 +1,6 @@
 -- From what is in memory to what paper 01's rule picks. Assumes nothing.
 use mathlib.Core.Path.{◌≡◌, refl, sym, ap, ◌∙◌}
-use mathlib.Core.Bool.{true, true≢false}
+use mathlib.Core.Bool.{true}
 use mathlib.Core.List.{List, [], ◌∷◌}
 use Prim.Native.Nat.{ℕ, ◌<◌, ◌≤◌}
 use native.Mathlib.Decide.{dec_lt}
@@ -11,13 +11,13 @@ use Rattle.fairness.specs.Exchange.{Move, Path, Exchange, improves_at, ties_at}
 use Rattle.fairness.proofs.Theorems.{path-within, improves-apart, ties-apart}
 use Rattle.model.proofs.Tests.{not-true}
 use Rattle.reach.specs.declared.Graph.{Graph}
-use Rattle.paths.specs.declared.ExchangePath.{ExchangePath}
-use Rattle.receiver.specs.declared.Scores.{Scores}
-use Rattle.paths.specs.declared.Kind.{Kind}
-use Rattle.paths.specs.declared.Kind.TheVariants.{None, Improving, WronglyTied}
-use Rattle.paths.specs.Paths.{moves_of}
+use Rattle.paths.specs.declared.Path as memory
+use Rattle.paths.specs.Paths.{moves_of, Nearest}
+use Rattle.paths.specs.Steps.{Drawn}
+use Rattle.receiver.specs.declared.Kind.{Kind}
+use Rattle.receiver.specs.declared.Kind.TheVariants.{Improving, WronglyTied}
+use Rattle.receiver.specs.declared.Score.{Score}
 use Rattle.receiver.specs.Tests.{test_by, score_at}
-use Rattle.paths.specs.Steps.{Drawn, Nearest}
 use Rattle.receiver.specs.Donors.{Donor, NoDonor}
 use Rattle.search.specs.Steps.{FirstPair}
 use Rattle.paths.proofs.Bridge.{within-reach, reach-seat}
@@ -28,16 +28,14 @@ use Rattle.exchange.proofs.Tests.{test_of, Scored}
 
 -- no seat wants itself
 pub test-apart : (kind : Kind) (I : Instance) (S : Sheet) (g : ℕ) → test_of kind I S g g ≡ true → ⊥
-test-apart None I S g e = true≢false (sym e)
 test-apart Improving I S g e = improves-apart I S g e
 test-apart WronglyTied I S g e = ties-apart I S g e
 
-module _ (I : Instance) (S : Sheet) (scores : Scores) (s : Scored I S scores) where
+module _ (I : Instance) (S : Sheet) (scores : List Score) (s : Scored I S scores) where
   -- scores are those of the instance
   test-same : (kind : Kind) (g l : ℕ) → g < I.seats → l < I.seats
       → test_of kind I S g l ≡ test_by kind (score_at scores g) (score_at scores l)
   unfolding improves_at ties_at
-  test-same None g l a b = refl
   test-same Improving g l a b =
       rw (s.heights_are g a, s.weights_are g a, s.heights_are l b, s.weights_are l b) refl
   test-same WronglyTied g l a b =
@@ -45,16 +43,16 @@ module _ (I : Instance) (S : Sheet) (scores : Scores) (s : Scored I S scores) wh
 
 -- ---- from scores and paths in memory to those of an instance
 
-module _ (I : Instance) (S : Sheet) (scores : Scores) (s : Scored I S scores) where
-  module _ (kind : Kind) (graph : Graph) (d : Drawn I S graph) (seats : ℕ) (n : I.seats ≡ seats) where
+module _ (I : Instance) (S : Sheet) (scores : List Score) (s : Scored I S scores) where
+  module _ (kind : Kind) (graph : Graph) (d : Drawn I S graph) (n : I.seats ≡ length scores) where
     -- a path to a donor that is wanted
-    donor-of : (g l : ℕ) (ms : List Move) → g < seats → Path I S g l ms → test_of kind I S g l ≡ true → Donor kind scores graph seats g l
+    donor-of : (g l : ℕ) (ms : List Move) → g < length scores → Path I S g l ms → test_of kind I S g l ≡ true → Donor kind scores graph g l
     donor-of g l ms h p t =
         let r = within-reach I S graph d (length ms) g l (path-within I S g l ms p) in
         let there = reach-seat I S graph d (length ms) g l (omega arith) r in
         ((length ms, r), (omega (arith, there), sym (test-same I S scores s kind g l (omega arith) there) ∙ t))
 
-    pub chosen : (g l : ℕ) (x : ExchangePath) → FirstPair kind scores graph seats g l → Nearest kind graph g l x
+    pub chosen : (g l : ℕ) (x : memory.Path) → FirstPair kind scores graph g l → Nearest graph g l x
         → Chosen I S (test_of kind I S) g l (moves_of x)
     chosen g l x f nearest = record {
       seat = omega (arith, f.seat);
@@ -69,11 +67,11 @@ module _ (I : Instance) (S : Sheet) (scores : Scores) (s : Scored I S scores) wh
         go ns p (yes h) = absurd (nearest.fewest (length ns) h (within-reach I S graph d (length ns) g l (path-within I S g l ns p)))
         go ns p (no h) = omega (arith, nearest.counted)
 
-    pub nobody : NoDonor kind scores graph seats → Exchange I S (test_of kind I S) → ⊥
-    nobody None x = go x.moves x.path
+    pub nobody : NoDonor kind scores graph → Exchange I S (test_of kind I S) → ⊥
+    nobody none x = go x.moves x.path
       where
         go : (ms : List Move) → Path I S x.receiver x.donor ms → ⊥
         go [] p = test-apart kind I S x.receiver (ap (test_of kind I S x.receiver) p.linked ∙ x.wanted)
         go (m ∷ ms) p =
-            let h : x.receiver < seats = omega (arith, p.linked.0, p.possible.0.in_taker) in
-            None x.receiver x.donor h (donor-of x.receiver x.donor (m ∷ ms) h p x.wanted)
+            let h : x.receiver < length scores = omega (arith, p.linked.0, p.possible.0.in_taker) in
+            none x.receiver x.donor h (donor-of x.receiver x.donor (m ∷ ms) h p x.wanted)

@@ -91,9 +91,9 @@ HoldersOf S windows n sets = (w k : ℕ) → In k (set_at sets w) ↔ HasCredit 
 
 -- no sets yet, where no seat below n has a credit
 pub held_first : (S : Sheet) (windows n m : ℕ) → ((k w : ℕ) → k < n → S k w ≡ 0) → HoldersOf S windows n (replicate m 0)
-held_first S windows n m None w k = (
+held_first S windows n m none w k = (
   λ p. absurd (omega (arith, rw (zeros-at m w) at p, bit-zero k)),
-  λ h. absurd (omega (arith, h.1.1, None k w h.0)),
+  λ h. absurd (omega (arith, h.1.1, none k w h.0)),
 )
 
 pub held_next : (S : Sheet) (windows n : ℕ) (sets sets' cells : List ℕ) → HoldersOf S windows n sets

@@ -1,21 +1,19 @@
 // The search for exchange paths on a sheet, which the marker and settling call: scores and a graph of it, then the search on those.
 #![tactic(auto)]
 
-ghost use Rattle.std.specs.Prelude.{◌≡◌, ◌⊎◌, ◌↔◌, ℕ, ◌≤◌, ◌<◌, get_or};
+ghost use Rattle.std.specs.Prelude.{◌≡◌, ◌⊎◌, ◌↔◌, ℕ, ◌≤◌, ◌<◌, get_or, IfSome};
 ghost use Rattle.fairness.specs.Instance.{Instance, Feasible};
 ghost use Rattle.model.specs.Book.{cell};
 ghost use Rattle.instance.specs.Terms.{instance_in, Told, Shows, Small};
 ghost use Rattle.masks.specs.Sets.{In};
 ghost use Rattle.reach.specs.Graphs.{set_at, Collects};
-ghost use Rattle.paths.specs.Paths.{moves_of};
 ghost use Rattle.exchange.specs.Graphs.{Shown};
 ghost use Rattle.exchange.specs.Paths.{Writable, Answers};
 
 use instance::Terms;
-use paths::ExchangePath;
 use reach::Graph;
-use receiver::Scores;
-use search::find;
+use receiver::Score;
+use search::{Exchange, find};
 use sheet::{Grid, row_total};
 
 // The windows in which a row has less than another.
@@ -64,27 +62,25 @@ pub fn graph_of(grid: &Grid, caps: &Grid, t: Terms) -> Graph
     Graph { rooms, holders }
 }
 
-// An exchange path that improves, and where there is none one that ties wrongly.
-pub fn find_path(grid: &Grid, caps: &Grid, t: Terms) -> ExchangePath
+// An exchange that improves, and where there is none one that ties wrongly.
+pub fn find_path(grid: &Grid, caps: &Grid, t: Terms) -> Option<Exchange>
     requires small { Small t caps.now }
     requires feasible { Feasible (instance_in t caps.now) (cell grid.now) }
-    ensures writable { Writable result }
-    ensures answers { (I : Instance) (S : ℕ → ℕ → ℕ) → Told I t caps.now → Shows t S grid.now →
-        Answers I S result.kind result.receiver result.donor (moves_of result) }
+    ensures writable { IfSome result (λ x. Writable x.path) }
+    ensures answers { (I : Instance) (S : ℕ → ℕ → ℕ) → Told I t caps.now → Shows t S grid.now → Answers I S result }
 {
-    let seats = t.seats;
-    let windows = t.windows;
-    let bases = t.bases;
-    let weights = t.weights;
-    let positions = t.positions;
-    let mut heights = [0u32; 32];
-    for seat in 0..seats {
-        heights[seat] = bases[seat] + row_total(&grid[seat], windows);
-    }
-    let scores = Scores {
-        heights,
-        weights,
-        positions,
+    let none = Score {
+        height: 0,
+        weight: 1,
+        position: 0,
     };
-    find(scores, graph_of(grid, caps, t), seats)
+    let mut scores = [none; 32];
+    for seat in 0..t.seats {
+        scores[seat] = Score {
+            height: t.bases[seat] + row_total(&grid[seat], t.windows),
+            weight: t.weights[seat],
+            position: t.positions[seat],
+        };
+    }
+    find(&scores[..t.seats], &graph_of(grid, caps, t))
 }

@@ -18,22 +18,22 @@ use Rattle.fairness.proofs.Profiles.{bound, B, big, Better-potential, same-highe
 module _ (I : Instance) (proper : Proper I) where
   -- no feasible sheet is better than one that wastes nothing and has no path that improves
   optimal : (S T : Sheet) → (Wasteful I S → ⊥) → NoPath I (Prefers I) S → Feasible I T → Better I S T → ⊥
-  optimal S T full None feasible h =
+  optimal S T full none feasible h =
       omega (
         arith,
         Better-potential I proper (bound I T) S T (le_refl _) h,
         potential-least (B I) (big I) (bound I T) (u I) I S T (u-pos I proper) full feasible
-            (λ g l k ms lg ll p e s. None g l k ms lg ll p e (units-prefers I proper g l lg ll (height I S g) k s)),
+            (λ g l k ms lg ll p e s. none g l k ms lg ll p e (units-prefers I proper g l lg ll (height I S g) k s)),
       )
 
   pub unimprovable-highest : (S : Sheet) → Feasible I S → (Wasteful I S → ⊥) → (Improvable I S → ⊥) → Highest I S
-  unimprovable-highest S feasible full None =
+  unimprovable-highest S feasible full none =
       record { feasible = feasible; most = λ T f. go T f (same-higher-lower I T S) }
     where
       go : (T : Sheet) → Feasible I T → SameProfile I T S ⊎ (Better I T S ⊎ Better I S T) → SameProfile I T S ⊎ Better I T S
       go T f (inl s) = inl s
       go T f (inr (inl b)) = inr b
-      go T f (inr (inr b)) = absurd (optimal S T full (unimprovable I S None) f b)
+      go T f (inr (inr b)) = absurd (optimal S T full (unimprovable I S none) f b)
 
   ranked : (S : Sheet) → Settled I S → NoPath I (ranking I proper).Before S
   unfolding ranking

@@ -184,11 +184,11 @@ module _ (B : ℕ) (big : 2 ≤ B) where
         sum-eq n _ _ (λ i l. by-layers i (h i)) ∙ sum-swap n (B ^ N) (λ i v. count (layer v) i (h i))
 
     module _ (I : Instance) (S T : Sheet) (units : (i : ℕ) → i < I.seats → 0 < u i)
-        (full : Wasteful I S → ⊥) (feasible : Feasible I T) (None : NoPath I (Sooner u) S)
+        (full : Wasteful I S → ⊥) (feasible : Feasible I T) (none : NoPath I (Sooner u) S)
       where
         respects : (v : ℕ) → Respects I S (layer v)
         unfolding layer
-        respects v g l k ms lg ll p w e = omega (arith, φ-le g (height I S g) l k (units l ll) (None g l k ms lg ll p e))
+        respects v g l k ms lg ll p w e = omega (arith, φ-le g (height I S g) l k (units l ll) (none g l k ms lg ll p e))
 
         pub potential-least : potential I.seats (height I S) ≤ potential I.seats (height I T)
         potential-least =

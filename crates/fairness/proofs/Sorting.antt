@@ -8,7 +8,7 @@ use native.Mathlib.Nat.{le_trans, le_antisymm, pow-le-pow_right, pow-suc, one-le
 use native.Mathlib.Decide.{dec_le}
 use native.Mathlib.Omega.{arith}
 use lib.ListN.{length}
-use Rattle.fairness.specs.Leximin.{choose, Equal, None, both, Higher, at, next, insert, sort}
+use Rattle.fairness.specs.Leximin.{choose, Equal, none, both, Higher, at, next, insert, sort}
 use Rattle.fairness.specs.Exchange.{All}
 use Rattle.fairness.proofs.Lists.{All-map, list_sum}
 
@@ -17,11 +17,11 @@ module _ {A : Type 0} (◌⊑◌ : A → A → Type 0) where
   -- ---- the three cases exclude each other, and one of them holds
 
   pub Equal-sym : (xs ys : List A) → Equal ◌⊑◌ xs ys → Equal ◌⊑◌ ys xs
-  Equal-sym xs ys None = None
+  Equal-sym xs ys none = none
   Equal-sym xs ys (both {xs = xs'} {ys = ys'} p q e) = both q p (Equal-sym xs' ys' e)
 
   pub Equal-not-Higher : (xs ys : List A) → Equal ◌⊑◌ xs ys → Higher ◌⊑◌ xs ys → ⊥
-  Equal-not-Higher _ _ None h = elim h [ ]
+  Equal-not-Higher _ _ none h = elim h [ ]
   Equal-not-Higher xs ys (both p q e) (at h) = h q
   Equal-not-Higher xs ys (both {xs = xs'} {ys = ys'} p q e) (next r s h) = Equal-not-Higher xs' ys' e h
 
@@ -37,7 +37,7 @@ module _ {A : Type 0} (◌⊑◌ : A → A → Type 0) where
 
   pub trichotomy : ((x y : A) → Dec (x ⊑ y)) → (xs ys : List A) → length xs ≡ length ys →
       Equal ◌⊑◌ xs ys ⊎ (Higher ◌⊑◌ xs ys ⊎ Higher ◌⊑◌ ys xs)
-  trichotomy ⊑? [] [] e = inl None
+  trichotomy ⊑? [] [] e = inl none
   trichotomy ⊑? [] (y ∷ ys) e = absurd (omega arith)
   trichotomy ⊑? (x ∷ xs) [] e = absurd (omega arith)
   trichotomy ⊑? (x ∷ xs) (y ∷ ys) e = go (trichotomy ⊑? xs ys (omega arith)) (⊑? x y) (⊑? y x)
@@ -125,7 +125,7 @@ module _ (B N : ℕ) where
 
   pub weigh-Equal : (xs ys : List ℕ) → Equal ◌≤◌ xs ys → weigh xs ≡ weigh ys
   unfolding weigh list_sum
-  weigh-Equal xs ys None = refl
+  weigh-Equal xs ys none = refl
   weigh-Equal xs ys (both {xs = xs'} {ys = ys'} p q l) =
       omega (arith, weigh-Equal xs' ys' l, ap (λ (z : ℕ). B ^ (N - z)) (le_antisymm p q))
 
@@ -196,7 +196,7 @@ module _ {A : Type 0} (◌⊑◌ : A → A → Type 0) (⊑? : (x y : A) → Dec
 
     -- the order is transitive, so equality is
     pub Equal-trans : (xs ys zs : List A) → All Good xs → All Good ys → All Good zs → Equal ◌⊑◌ xs ys → Equal ◌⊑◌ ys zs → Equal ◌⊑◌ xs zs
-    Equal-trans xs ys zs a b c None None = None
+    Equal-trans xs ys zs a b c none none = none
     Equal-trans xs ys zs a b c (both {x = x} {y = y} {xs = xs'} {ys = ys'} p q d) (both {y = z} {ys = zs'} r s e) =
         both (step x y z a.0 b.0 c.0 p r) (step z y x c.0 b.0 a.0 s q)
         (Equal-trans xs' ys' zs' a.1 b.1 c.1 d e)

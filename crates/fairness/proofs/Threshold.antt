@@ -125,7 +125,7 @@ pub threshold-cutoffs : (I : Instance) (S T : Sheet) → (Wasteful I S → ⊥) 
     ((g l : ℕ) (ms : List Move) → g < I.seats → l < I.seats → Path I S g l ms → height I S g < c g → c l < height I S l → ⊥) →
     sum I.seats (λ i. min (height I T i) (c i)) ≤ sum I.seats (λ i. min (height I S i) (c i))
 unfolding below
-threshold-cutoffs I S T full feasible c None =
+threshold-cutoffs I S T full feasible c none =
     le_trans (le_of_eq (sum-eq I.seats _ _ (λ i l. sym (count-below c i (height I T i)))))
     (le_trans (threshold I S T full feasible (below c) respects)
     (le_of_eq (sum-eq I.seats _ _ (λ i l. count-below c i (height I S i)))))
@@ -135,4 +135,4 @@ threshold-cutoffs I S T full feasible c None =
       where
         go : Dec (k < c l) → k < c l
         go (yes b) = b
-        go (no b) = absurd (None g l ms lg ll p w (omega arith))
+        go (no b) = absurd (none g l ms lg ll p w (omega arith))

@@ -88,7 +88,7 @@ module _ {n : ℕ} (R : Ranking n) (i₀ k₀ : ℕ) (seat : i₀ < n) where
       ∙ ap (λ (x : ℕ). sum n (λ i. count before i (h i)) + x) (held h)
 
 module _ (I : Instance) (R : Ranking I.seats) (i₀ k₀ : ℕ) (seat : i₀ < I.seats)
-    (S : Sheet) (None : NoPath I R.Before S)
+    (S : Sheet) (none : NoPath I R.Before S)
   where
     respects-before : Respects I S (before R i₀ k₀ seat)
     unfolding before
@@ -96,7 +96,7 @@ module _ (I : Instance) (R : Ranking I.seats) (i₀ k₀ : ℕ) (seat : i₀ < I
       where
         go : Dec (R.Before l k i₀ k₀) → R.Before l k i₀ k₀
         go (yes p) = p
-        go (no p) = absurd (None g l k ms lg ll r e (R.cotrans g (height I S g) l k i₀ k₀ w p))
+        go (no p) = absurd (none g l k ms lg ll r e (R.cotrans g (height I S g) l k i₀ k₀ w p))
 
     respects-upto : Respects I S (upto R i₀ k₀ seat)
     unfolding upto
@@ -106,14 +106,14 @@ module _ (I : Instance) (R : Ranking I.seats) (i₀ k₀ : ℕ) (seat : i₀ < I
             R.Before g (height I S g) i₀ k₀ ⊎ Is R i₀ k₀ seat g (height I S g) → R.Before l k i₀ k₀ ⊎ Is R i₀ k₀ seat l k
         go (yes p) v = p
         go (no p) (inl b) =
-            absurd (None g l k ms lg ll r e (R.cotrans g (height I S g) l k i₀ k₀ b (λ c. p (inl c))))
+            absurd (none g l k ms lg ll r e (R.cotrans g (height I S g) l k i₀ k₀ b (λ c. p (inl c))))
         go (no p) (inr q) = absurd (at (R.before? g (height I S g) l k))
           where
             later : R.Before l k g (height I S g) → ⊥
             later c = p (inl (subst₂ (λ (x y : ℕ). R.Before l k x y) q.0 q.1 c))
 
             at : Dec (R.Before g (height I S g) l k) → ⊥
-            at (yes b) = None g l k ms lg ll r e b
+            at (yes b) = none g l k ms lg ll r e b
             at (no b) =
                 let same : (g ≡ l) × (height I S g ≡ k) = R.total g (height I S g) l k lg ll b later in
                 p (inr (sym same.0 ∙ q.0, sym same.1 ∙ q.1))

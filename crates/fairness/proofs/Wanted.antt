@@ -162,8 +162,8 @@ module _ (I : Instance) (S : Sheet) where
   -- ---- from the absence of exchanges to the orders
 
   pub unimprovable : (Improvable I S → ⊥) → NoPath I (Prefers I) S
-  unimprovable None g l k ms lg ll p e r =
-      None (record { receiver = g; donor = l; moves = ms; path = p; wanted = lex-improves_at g l k e r })
+  unimprovable none g l k ms lg ll p e r =
+      none (record { receiver = g; donor = l; moves = ms; path = p; wanted = lex-improves_at g l k e r })
 
   pub unexchangeable : Proper I → (Improvable I S → ⊥) → (Tied I S → ⊥) → NoPath I (Precedes I) S
   unexchangeable proper none-improves none-ties g l k ms lg ll p e (inl a) = unimprovable none-improves g l k ms lg ll p e (inl a)

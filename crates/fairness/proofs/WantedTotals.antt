@@ -178,5 +178,5 @@ module _ (I : Instance) (want : ℕ → ℕ) where
   pub granted-iff : ((S : Sheet) × Grants I want S) ↔ (Overasked I want → ⊥)
   granted-iff = (
     λ s o. wanted-either I want s.0 s.1 o.Group o.in? o.more,
-    λ None. ⊎_elim (λ s. s) (λ o. absurd (None o)) granted-or-overasked,
+    λ none. ⊎_elim (λ s. s) (λ o. absurd (none o)) granted-or-overasked,
   )

@@ -14,7 +14,7 @@ module _ {A : Type 0} (◌⊑◌ : A → A → Type 0) where
   infix 50 ◌⊑◌
   -- equal at every place
   pub data Equal : List A → List A → Type 0 where
-    None : Equal [] []
+    none : Equal [] []
     both : {x y : A} {xs ys : List A} → x ⊑ y → y ⊑ x → Equal xs ys → Equal (x ∷ xs) (y ∷ ys)
 
   -- ys is higher than xs: equal up to the first place where they differ, and above it there

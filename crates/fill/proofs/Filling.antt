@@ -1,5 +1,5 @@
 -- Windows filled one after another, each seat by seat.
-use mathlib.Core.Path.{◌≡◌, refl, ◌∙◌}
+use mathlib.Core.Path.{◌≡◌, ◌∙◌}
 use mathlib.Core.Logic.{◌≢◌}
 use mathlib.Core.List.{List}
 use Prim.Native.Nat.{ℕ, zero, suc, min, ◌+◌, ◌-◌, ◌≤◌, ◌<◌}
@@ -26,15 +26,6 @@ module _ (n j : ℕ) (caps : Grid) (supply : ℕ) (g : Grid) where
     pub full : (i : ℕ) → i < k → 0 < left → cell caps i j ≤ cell r i j
     pub others : (i b : ℕ) → b ≢ j → cell r i b ≡ cell g i b
 
-  pub first : (left : ℕ) → Shaped 32 24 g → FeasibleAt n j caps supply g → sum n (λ i. cell g i j) + left ≡ supply → Filling 0 left g
-  first left shape feasible count = record {
-    shape = shape;
-    within = feasible.within;
-    count = count;
-    full = λ i l. absurd (omega arith);
-    others = λ i b d. refl;
-  }
-
   module _
       (k left more : ℕ) (r : Grid) (f : Filling k left r) (hk : k < n) (hn : n ≤ 32) (hj : j < 24)
       (e : more ≡ min left (cell caps k j - cell r k j))
@@ -51,7 +42,7 @@ module _ (n j : ℕ) (caps : Grid) (supply : ℕ) (g : Grid) where
           | no q ↦ omega (arith, wrote.seats i j q, f.within i l)
         ];
         count = omega (arith, f.count, column-here n (cell r) _ k j _ wrote hk);
-        full = λ i l Some. elim (ℕ_discrete i k) [
+        full = λ i l some. elim (ℕ_discrete i k) [
           | yes q ↦ rw q (omega (arith, wrote.here))
           | no q ↦ omega (arith, wrote.seats i j q, f.full i (omega arith) (omega arith))
         ];
@@ -91,12 +82,6 @@ module _ (n : ℕ) (caps : Grid) (supplies : List ℕ) (g : Grid) where
   pub record Upto (m : ℕ) (r : Grid) : Type 0 where
     pub filled : Filled n m caps supplies r
     pub later : (i j : ℕ) → m ≤ j → cell r i j ≡ cell g i j
-
-  pub filled_none : Shaped 32 24 g → Upto 0 g
-  filled_none shape = record {
-    filled = record { shape = shape; full = λ j l. absurd (omega arith) };
-    later = λ i j l. refl;
-  }
 
   module _ (m : ℕ) (r : Grid) (u : Upto m r) where
     -- the next window is as it was

@@ -3,3 +3,4 @@ pub mod Columns
 pub mod Filling
 pub mod Feasible
 pub mod Shifts
+pub mod Keeping

@@ -3,7 +3,7 @@ use Rattle.std.specs.Prelude.{◌≡◌, ◌≢◌, List, ℕ, min, ◌+◌, ◌
 use Rattle.fairness.specs.Sums.{sum}
 use Rattle.fairness.specs.Instance.{Instance, Sheet, Feasible, Wasteful}
 use Rattle.model.specs.Book.{Grid, cell, Shaped}
-use Rattle.sheet.specs.declared.Move.{Move}
+use Rattle.fill.specs.declared.steps.Step.{Step}
 
 -- feasible, with nothing wasted
 pub record Full (I : Instance) (S : Sheet) : Type 0 where
@@ -36,13 +36,13 @@ pub record Filled (n m : ℕ) (caps : Grid) (supplies : List ℕ) (r : Grid) : T
   pub full : (j : ℕ) → j < m → FullAt n j caps (get_or supplies j 0) r
 
 -- whatever the supplies, what was filled stays filled
-abbrev pub Keeps : ℕ → ℕ → Grid → Grid → Grid → Type 0
-Keeps n m caps g r = (supplies : List ℕ) → Filled n m caps supplies g → Filled n m caps supplies r
+pub record Keeps (n m : ℕ) (caps g r : Grid) : Type 0 where
+  pub kept : (supplies : List ℕ) → Filled n m caps supplies g → Filled n m caps supplies r
 
 -- ---- one move
 
 -- a move lets a credits through: the giver has them, the taker has room for them, and its cell holds them
-pub record Passes (caps g : Grid) (step : Move) (a : ℕ) : Type 0 where
+pub record Passes (caps g : Grid) (step : Step) (a : ℕ) : Type 0 where
   pub has : a ≤ cell g step.giver step.window
   pub free : a ≤ cell caps step.taker step.window - cell g step.taker step.window
   pub holds : cell g step.taker step.window + a ≤ 65535

@@ -39,16 +39,16 @@ use Rattle.grant.specs.Steps.{IfGroup, NoneAlone, NoneShort, Reaches, Enough}
 
 -- ---- a group, or none
 
-module _ (Some None : Type 0) where
-  pub some-group : (g : ℕ) → (g ≡ 0 → ⊥) → Some → IfGroup g Some None
+module _ (some none : Type 0) where
+  pub some-group : (g : ℕ) → (g ≡ 0 → ⊥) → some → IfGroup g some none
   some-group zero pos o = absurd (pos refl)
   some-group (suc k) pos o = o
 
-  pub of-group : (g : ℕ) → (g ≡ 0 → ⊥) → IfGroup g Some None → Some
+  pub of-group : (g : ℕ) → (g ≡ 0 → ⊥) → IfGroup g some none → some
   of-group zero pos o = absurd (pos refl)
   of-group (suc k) pos o = o
 
-  pub of_none : (g : ℕ) → g ≡ 0 → IfGroup g Some None → None
+  pub of_none : (g : ℕ) → g ≡ 0 → IfGroup g some none → none
   of_none zero e o = o
   of_none (suc k) e o = absurd (omega arith)
 
@@ -135,11 +135,11 @@ module _ (t : Terms) (caps : Grid) (I : Instance) (told : Told I t caps) (wants 
 
   -- who wants no more wants no more than the most
   pub alone-small : Small t caps → NoneAlone I (λ k. get_or wants k 0) → (i : ℕ) → i < I.seats → get_or wants i 0 ≤ most_total
-  alone-small small None i li =
+  alone-small small none i li =
       let seat : i < t.seats = omega (arith, told.seats_are) in
       let bound = sum_bound 4095 I.windows (λ j. min (I.supply j) (I.cap i j))
       (λ j lj. cap-small j (omega (arith, told.windows_are)) seat) in
-      omega (arith, bound, None i li, told.windows_are, small.ranged.windows_most)
+      omega (arith, bound, none i li, told.windows_are, small.ranged.windows_most)
     where
       cap-small : (j : ℕ) → j < t.windows → i < t.seats → min (I.supply j) (I.cap i j) ≤ 4095
       cap-small j lj seat = omega (arith, told.caps_are i j seat lj, small.caps_most i j seat lj)
@@ -195,11 +195,11 @@ module _ (t : Terms) (caps : Grid) (I : Instance) (told : Told I t caps) (wants 
 
   -- a sheet that leaves nobody short
   pub served-enough : (grid : Grid) → Feasible (instance_in t caps) (cell grid) → NoneShort I (cell grid) w → Enough I (cell grid) w
-  served-enough grid f None =
+  served-enough grid f none =
       record {
         feasible = alike-feasible (instance_in t caps) I (cell grid) (cell grid)
             (shown-alike t caps I told (cell grid) grid (shows-itself t grid)) f;
-        none_short = None;
+        none_short = none;
       }
 
   -- a settled sheet
@@ -212,7 +212,7 @@ module _ (t : Terms) (caps : Grid) (I : Instance) (told : Told I t caps) (wants 
         few i li = small i (omega (arith, told.seats_are))
 
         go : (g : ℕ) → IfGroup g (Reaches I S w g) (NoneShort I S w) → IfGroup g (Overasks I w g) (Enough I S w)
-        go zero None = record { feasible = aimed-feasible I w most_total S settled.feasible; none_short = None }
+        go zero none = record { feasible = aimed-feasible I w most_total S settled.feasible; none_short = none }
         go (suc k) reaches = reached-group I w S few settled (suc k) reaches
 
   pub granted-sheet : (S T : Sheet) → Enough I S w → ((i j : ℕ) → i < t.seats → j < t.windows → T i j ≡ trimmed (w i) (S i) j) →

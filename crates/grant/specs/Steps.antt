@@ -7,9 +7,9 @@ use Rattle.fairness.specs.Layers.{Within}
 use Rattle.masks.specs.Sets.{In}
 
 -- what holds of a group, and what holds where there is none
-abbrev pub IfGroup : ℕ → (Some None : Type 0) → Type 0
-IfGroup zero Some None = None
-IfGroup (suc k) Some None = Some
+abbrev pub IfGroup : ℕ → (some none : Type 0) → Type 0
+IfGroup zero some none = none
+IfGroup (suc k) some none = some
 
 -- no seat wants more than it can get alone
 abbrev pub NoneAlone : Instance → (ℕ → ℕ) → Type 0

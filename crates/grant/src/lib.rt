@@ -18,7 +18,6 @@ use engine::settled_from;
 use exchange::graph_of;
 use instance::Terms;
 use masks::insert;
-use reach::reached;
 use sheet::Grid;
 use wants::{aim, alone_totals, first_short, serve, totals, trim};
 
@@ -42,7 +41,7 @@ fn short_group(sheet: &Grid, caps: &Grid, t: Terms, wants: [u32; 32]) -> u32
         (NoneShort I (cell sheet.now) (λ i. get_or wants i 0)) }
 {
     if let Found::At(seat) = first_short(totals(sheet, t.seats, t.windows), wants, t.seats) {
-        return reached(graph_of(sheet, caps, t), seat);
+        return graph_of(sheet, caps, t).reached(seat);
     }
     0
 }

@@ -1,4 +1,5 @@
 -- What is known of lines.
-pub mod Growing
+pub mod Moves
 pub mod Bounds
 pub mod Fronts
+pub mod Growing

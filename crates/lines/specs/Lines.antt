@@ -1,7 +1,7 @@
 -- The lines that the program `mark` prints, byte for byte. Seats, windows and moves count from 0 here and from 1 in the text.
-use Rattle.std.specs.Prelude.{◌≡◌, List, [], ◌++◌, ℕ, zero, suc, ◌+◌, ◌*◌, length, get_or, drop}
+use Rattle.std.specs.Prelude.{◌≡◌, List, [], ◌++◌, ℕ, zero, suc, ◌+◌, ◌*◌, length, get_or, drop, codes}
 use Prim.Native.String.{String}
-use Rattle.text.specs.Text.{ascii, decimal, four_digits, opening_time}
+use Rattle.text.specs.Text.{decimal, four_digits, opening_time}
 
 -- ---- parts of a line
 
@@ -10,18 +10,18 @@ unfoldable pub labelled : List ℕ → ℕ → List ℕ
 labelled label n = label ++ decimal n
 
 abbrev pub field : String → ℕ → List ℕ
-field words n = labelled (ascii words) n
+field words n = labelled (codes words) n
 
 -- .. and the end of the line
 unfoldable pub labelled_last : List ℕ → ℕ → List ℕ
-labelled_last label n = labelled label n ++ ascii "\n"
+labelled_last label n = labelled label n ++ codes "\n"
 
 abbrev pub last_field : String → ℕ → List ℕ
-last_field words n = labelled_last (ascii words) n
+last_field words n = labelled_last (codes words) n
 
 -- when window j opens
 unfoldable pub opens : ℕ → List ℕ
-opens j = ascii " opens " ++ four_digits (opening_time j)
+opens j = codes " opens " ++ four_digits (opening_time j)
 
 -- ---- lines; above each, one of paper 01's sample
 

@@ -1,33 +1,37 @@
 // The parts of a line.
 ghost use Rattle.std.specs.Prelude.{◌<◌};
-ghost use Rattle.lists.specs.Buffers.{Room, Stored};
+ghost use Rattle.text.specs.Printing.{Room, Prints};
 ghost use Rattle.lines.specs.Lines.{labelled, labelled_last, opens};
 
+use text::Printer;
+
 // A label and a number.
-pub(crate) fn put_field(out: &mut [u8], at: usize, label: &[u8], n: usize) -> usize
-    requires { Room out.old at (labelled label.now n) }
-    ensures { Stored out.old at (labelled label.now n) out.new result }
+#[tactic(auto, using(text::proofs::Printing::printing), unfolding(crate::specs::Lines::labelled))]
+pub(crate) fn put_field(to: &mut Printer, label: &[u8], n: usize)
+    requires { Room to.old (labelled label.now n) }
+    ensures { Prints to.old (labelled label.now n) to.new }
 {
-    let next = text::put_bytes(out, at, label);
-    text::put_decimal(out, next, n)
+    to.bytes(label);
+    to.decimal(n);
 }
 
 // A label, a number and the end of the line.
-pub fn put_last_field(out: &mut [u8], at: usize, label: &[u8], n: usize) -> usize
-    requires { Room out.old at (labelled_last label.now n) }
-    ensures { Stored out.old at (labelled_last label.now n) out.new result }
+#[tactic(auto, using(text::proofs::Printing::printing), unfolding(crate::specs::Lines::labelled_last))]
+pub fn put_last_field(to: &mut Printer, label: &[u8], n: usize)
+    requires { Room to.old (labelled_last label.now n) }
+    ensures { Prints to.old (labelled_last label.now n) to.new }
 {
-    let next = put_field(out, at, label, n);
-    text::put_bytes(out, next, b"\n")
+    put_field(to, label, n);
+    to.bytes(b"\n");
 }
 
 // When a window opens.
-pub(crate) fn put_opens(out: &mut [u8], at: usize, window: usize) -> usize
+#[tactic(auto, using(text::proofs::Printing::printing), unfolding(crate::specs::Lines::opens))]
+pub(crate) fn put_opens(to: &mut Printer, window: usize)
     requires window_bound { window < 24 }
-    requires room { Room out.old at (opens window) }
-    ensures { Stored out.old at (opens window) out.new result }
+    requires room { Room to.old (opens window) }
+    ensures { Prints to.old (opens window) to.new }
 {
-    let time = text::opening_time(window);
-    let next = text::put_bytes(out, at, b" opens ");
-    text::put_four(out, next, time)
+    to.bytes(b" opens ");
+    to.four_digits(text::opening_time(window));
 }

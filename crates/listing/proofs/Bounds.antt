@@ -6,7 +6,7 @@ use native.Mathlib.Omega.{arith}
 use lib.Dec.{eqb}
 use lib.ListN.{length, get_or, length-append}
 use Rattle.model.specs.Marks.{Result}
-use Rattle.text.specs.Text.{ascii}
+use Rattle.std.specs.Prelude.{codes}
 use Rattle.lines.specs.Lines.{last_field, left_line, window_at, window_lines, seat_at, seat_lines, move_lines}
 use Rattle.lines.proofs.Bounds.{last-le, head-le, window-le, seat-le, left_le, lines-at-most, Below, moves-le}
 use Rattle.listing.specs.Listing.{book_lines, pick, result_lines, listing_text, listing_max}
@@ -31,7 +31,7 @@ module _ (n m : ℕ) (classes supplies placed totals : List ℕ) (hn : n ≤ 32)
       where
         result-le : length (result_lines r moves) ≤ 9 + 31 * 32
         unfolding result_lines
-        result-le = go (eqb r.mark 1) (last-le (ascii "mark ") 2 r.mark (omega arith)) (moves-le moves r.moves hv)
+        result-le = go (eqb r.mark 1) (last-le (codes "mark ") 2 r.mark (omega arith)) (moves-le moves r.moves hv)
           where
             go : (b : Bool) → length (last_field "mark " r.mark) ≤ 9 → length (move_lines r.moves moves) ≤ r.moves * 32
                 → length (last_field "mark " r.mark ++ pick b (left_line r.window r.seat) (move_lines r.moves moves)) ≤ 9 + 31 * 32

@@ -1,7 +1,7 @@
 -- Numbers in memory that are those of a book, a sheet and moves give the listing of these.
-use mathlib.Core.Path.{◌≡◌, refl, sym, ap₂, ◌∙◌}
+use mathlib.Core.Path.{◌≡◌, sym, ap₂, ◌∙◌}
 use mathlib.Core.List.{List, ◌++◌}
-use Prim.Native.Nat.{ℕ, zero, suc, ◌+◌, ◌*◌, ◌<◌}
+use Prim.Native.Nat.{ℕ, ◌+◌, ◌*◌, ◌<◌}
 use native.Mathlib.Omega.{arith}
 use lib.ListN.{length, get_or, get_or-append}
 use Rattle.fairness.specs.Instance.{placed, total}
@@ -10,7 +10,8 @@ use Rattle.model.specs.Book.{Book, Grid, cell, seats, windows, instance_of, tota
 use Rattle.model.specs.Marks.{Result, move_bytes}
 use Rattle.model.proofs.Moves.{move-bytes-length}
 use Rattle.lists.proofs.Tables.{table_at}
-use Rattle.lines.specs.Lines.{window_line, seat_line, move_line, lines, window_lines, seat_lines, move_lines}
+use Rattle.lines.proofs.Fronts.{lines_same}
+use Rattle.lines.specs.Lines.{window_line, seat_line, move_line, window_lines, seat_lines, move_lines}
 use Rattle.listing.specs.Listing.{book_lines, result_lines, listing_text, listing_of}
 
 -- ---- the same numbers give the same text
@@ -18,12 +19,6 @@ use Rattle.listing.specs.Listing.{book_lines, result_lines, listing_text, listin
 -- two lists have the same first k entries
 record Agree (k : ℕ) (xs ys : List ℕ) : Type 0 where
   pub entry : (i : ℕ) → i < k → get_or xs i 0 ≡ get_or ys i 0
-
-lines_same : (f g : ℕ → List ℕ) (n : ℕ) → ((j : ℕ) → j < n → f j ≡ g j) → lines n f ≡ lines n g
-unfolding lines
-lines_same f g zero h = refl
-lines_same f g (suc n) h =
-    ap₂ (λ (xs ys : List ℕ). xs ++ ys) (lines_same f g n (λ j l. h j (omega arith))) (h n (omega arith))
 
 windows-same : (m : ℕ) {supplies supplies' placed placed' : List ℕ} → Agree m supplies supplies' → Agree m placed placed'
     → window_lines m supplies placed ≡ window_lines m supplies' placed'

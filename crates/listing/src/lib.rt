@@ -8,7 +8,7 @@ ghost use Rattle.dayfile.specs.Bounds.{Fit};
 ghost use Rattle.dayfile.specs.Memory.{day_book, cells_in};
 ghost use Rattle.sheet.specs.Sheets.{grid_of};
 ghost use Rattle.answers.specs.Answers.{result_in};
-ghost use Rattle.lists.specs.Buffers.{Room, Stored};
+ghost use Rattle.text.specs.Printing.{Room, Prints};
 ghost use Rattle.lines.specs.Lines.{Printed};
 ghost use Rattle.listing.specs.Listing.{book_lines, result_lines, listing_text, listing_of, listing_max};
 ghost use Rattle.listing.specs.Calls.{Listed, Lists};
@@ -18,6 +18,7 @@ use dayfile::{Book, Day, Written};
 use lawful::MOVES_ROOM;
 use lines::{line, part, put_move_lines, put_refusal, put_seat_lines, put_window_lines};
 use sums::{Sums, sums_of};
+use text::Printer;
 
 pub mod sums;
 
@@ -25,38 +26,36 @@ pub mod sums;
 pub const LISTING_MAX: usize = 3453;
 
 // The first line, the windows and the seats.
-fn put_book_lines(out: &mut [u8], at: usize, book: Book, sums: Sums) -> usize
+fn put_book_lines(to: &mut Printer, book: Book, sums: Sums)
     requires seats_bound { (book.seats ≤ 32) × (book.windows ≤ 24) }
-    requires room { Room out.old at
+    requires room { Room to.old
         (book_lines book.seats book.windows book.classes book.supplies sums.placed sums.totals) }
-    ensures { Stored out.old at
-        (book_lines book.seats book.windows book.classes book.supplies sums.placed sums.totals) out.new result }
+    ensures { Prints to.old
+        (book_lines book.seats book.windows book.classes book.supplies sums.placed sums.totals) to.new }
 {
     let seats = book.seats;
     let windows = book.windows;
-    let supplies = book.supplies;
-    let classes = book.classes;
-    let placed = sums.placed;
-    let totals = sums.totals;
-    let mut next = line::put_head_line(out, at, seats, windows);
-    next = put_window_lines(out, next, windows, supplies, placed);
-    put_seat_lines(out, next, seats, classes, totals)
+    line::put_head_line(to, seats, windows);
+    put_window_lines(to, &book.supplies[..windows], &sums.placed[..windows]);
+    put_seat_lines(to, &book.classes[..seats], &sums.totals[..seats]);
 }
 
 // The mark, and what belongs to it: a window and a seat, or moves.
-fn put_result_lines(out: &mut [u8], at: usize, res: Numbers, moves: &[u8]) -> usize
+fn put_result_lines(to: &mut Printer, res: Numbers, moves: &[u8])
     requires moves_in_bounds { res.moves * 3 ≤ length moves.now }
-    requires room { Room out.old at (result_lines (result_in res) moves.now) }
-    ensures { Stored out.old at (result_lines (result_in res) moves.now) out.new result }
+    requires room { Room to.old (result_lines (result_in res) moves.now) }
+    ensures { Prints to.old (result_lines (result_in res) moves.now) to.new }
 {
-    let next = part::put_last_field(out, at, b"mark ", res.mark as usize);
+    part::put_last_field(to, b"mark ", usize::from(res.mark));
     if res.mark == 1 {
-        return line::put_left_line(out, next, res.window, res.seat);
+        line::put_left_line(to, res.window, res.seat);
+    } else {
+        put_move_lines(to, &moves[..res.moves * 3]);
     }
-    put_move_lines(out, next, moves, res.moves)
 }
 
 // A whole listing at the buffer's front; returns its length. The moves of marks 2 and 3 come as the marker writes them.
+#[tactic(auto, using(text::proofs::Printing::printing), unfolding(crate::specs::Listing::listing_text))]
 pub fn put_listing(out: &mut [u8], book: Book, sums: Sums, res: Numbers, moves: &[u8]) -> usize
     requires listing_max_in_bounds { listing_max ≤ length out.old }
     requires seats_bound { (book.seats ≤ 32) × (book.windows ≤ 24) }
@@ -66,8 +65,10 @@ pub fn put_listing(out: &mut [u8], book: Book, sums: Sums, res: Numbers, moves: 
         (result_in res) moves.now)
         out.new result }
 {
-    let next = put_book_lines(out, 0, book, sums);
-    put_result_lines(out, next, res, moves)
+    let mut printer = Printer::new(out);
+    put_book_lines(&mut printer, book, sums);
+    put_result_lines(&mut printer, res, moves);
+    printer.len()
 }
 
 // The listing of a day with a sheet, whatever the mark and the moves are.

@@ -1,18 +1,19 @@
 -- A loop that writes the moves of an exchange path, three bytes each. Assumes nothing.
-use mathlib.Core.Path.{◌≡◌, refl, ap}
+use mathlib.Core.Path.{◌≡◌, refl, ap, ◌∙◌}
 use mathlib.Core.List.{List, [], ◌∷◌, ◌++◌, map}
 use Prim.Native.Nat.{ℕ, ◌+◌, ◌*◌, ◌≤◌, ◌<◌}
 use native.Mathlib.Numerals.{add-one}
 use native.Mathlib.Omega.{arith}
-use lib.ListN.{length, take, get_or, set, length-map, length-take}
-use lib.Seq.{take-suc}
+use lib.ListN.{length, take, get_or, set, length-map, get_or-map}
+use lib.Seq.{take-suc, take_all}
 use Rattle.lists.specs.Buffers.{Stored}
-use Rattle.lists.proofs.Alls.{taken-all-at}
+use Rattle.lists.proofs.Alls.{all-at}
 use Rattle.lists.proofs.Buffers.{stored-none, stored-byte, stored-as, stored-front}
+use Rattle.fairness.specs.Exchange.{All}
 use Rattle.dayfile.specs.Memory.{front}
 use Rattle.sheet.specs.declared.Move.{Move}
 use Rattle.sheet.specs.Sheets.{move_of}
-use Rattle.paths.specs.declared.ExchangePath.{ExchangePath}
+use Rattle.paths.specs.declared.Path.{Path}
 use Rattle.paths.specs.Paths.{moves_of}
 use Rattle.exchange.specs.Paths.{InByte, Writable}
 use Rattle.model.specs.Marks.{move_bytes}
@@ -49,24 +50,22 @@ coded-more ms i d {b} {b₀} l s =
     let end : 3 * i + 1 + 1 + 1 ≡ 3 * (i + 1) = omega arith in
     rw (grown, ← place, ← end) three
 
--- ---- a path that can be written
+-- ---- a path that can be written, and its moves
 
-module _ (path : ExchangePath) (w : Writable path) where
-  inside : path.count ≤ length path.moves
-  inside =
-      let e = length-map (take path.count path.moves) move_of in
-      omega (arith, w.counted, e, length-take path.count path.moves)
+module _ (path : Path) (w : Writable path) (ms : List Move) (e : ms ≡ take path.count path.moves) where
+  same : map move_of ms ≡ moves_of path
+  same = ap (map move_of) e
 
-  pub move-inside : (i : ℕ) → i < path.count → i < length path.moves
-  move-inside i l = omega (arith, inside)
+  pub byte_at : (i : ℕ) (d : Move) → i < length ms → InByte (move_of (get_or ms i d))
+  byte_at i d l =
+      let all : All InByte (map move_of ms) = rw same w.small in
+      rw (get_or-map move_of ms i d) at (all-at InByte (move_of d) (map move_of ms) i all (omega (arith, length-map ms move_of)))
 
-  pub byte_at : (i : ℕ) (d : Move) → i < path.count → InByte (move_of (get_or path.moves i d))
-  byte_at i d l = taken-all-at move_of path.moves path.count InByte i d w.small l inside
-
-  pub coded-all : {b b₀ : List ℕ} (i : ℕ) → path.count ≤ i → i ≤ path.count → 3 * path.count ≤ length b₀ →
-      Stored b₀ 0 (coded i path.moves) b (3 * i) → b ≡ front (move_bytes (moves_of path)) b₀
+  pub coded-all : {b b₀ : List ℕ} (i : ℕ) → length ms ≤ i → 3 * path.count ≤ length b₀ → Stored b₀ 0 (coded i ms) b (3 * i)
+      → i ≤ length ms → b ≡ front (move_bytes (moves_of path)) b₀
   unfolding front
-  coded-all {b} {b₀} i g l long s =
-      let e : i ≡ path.count = omega arith in
-      let whole : Stored b₀ 0 (move_bytes (moves_of path)) b (3 * i) = stored-as (ap (λ (n : ℕ). coded n path.moves) e) s in
-      stored-front whole (omega (arith, move-bytes-length (moves_of path), w.counted))
+  coded-all {b} {b₀} i g long s l =
+      let whole : Stored b₀ 0 (move_bytes (moves_of path)) b (3 * i) =
+      stored-as (ap (λ (xs : List Move). move_bytes (map move_of xs)) (take_all i ms g) ∙ ap move_bytes same) s in
+      let count = ap length same in
+      stored-front whole (omega (arith, move-bytes-length (moves_of path), w.counted, count, length-map ms move_of))

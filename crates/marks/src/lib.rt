@@ -15,7 +15,7 @@ use dayfile::Book;
 use exchange::find_path;
 use instance::Terms;
 use moves::write_moves;
-use paths::Kind;
+use receiver::Kind;
 use sheet::Grid;
 use waste::{Waste, wasted};
 
@@ -28,18 +28,14 @@ fn mark_full(cells: &Grid, caps: &Grid, t: Terms, moves: &mut [u8]) -> Marking
     ensures { (b : model.Book) (s : model.Grid) → Told (model.instance_of b) t caps.now →
         Shows t (model.cell s) cells.now → MarkedAs b s (fair_mark b s) moves.old moves.new result }
 {
-    let path = find_path(cells, caps, t);
-    let kind = path.kind;
-    match kind {
-        Kind::None => Marking::Settled,
-        Kind::Improving => {
-            write_moves(moves, path);
-            Marking::Improvable { moves: path.count }
-        }
-        Kind::WronglyTied => {
-            write_moves(moves, path);
-            Marking::Tied { moves: path.count }
-        }
+    let Some(found) = find_path(cells, caps, t) else {
+        return Marking::Settled;
+    };
+    write_moves(moves, &found.path);
+    let count = found.path.count;
+    match found.kind {
+        Kind::Improving => Marking::Improvable { moves: count },
+        Kind::WronglyTied => Marking::Tied { moves: count },
     }
 }
 

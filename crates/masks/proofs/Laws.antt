@@ -66,6 +66,16 @@ unfolding count_below
 count-le zero m = omega arith
 count-le (suc n) m = omega (arith, count-le n m, bit-lt m n)
 
+-- where as many are in the set as there are numbers below n, each of these is
+pub count-all : (n m i : ℕ) → n ≤ count_below n m → i < n → In i m
+unfolding count_below
+count-all zero m i h l = absurd (omega arith)
+count-all (suc n) m i h l =
+    elim (ℕ_discrete i n) [
+      | yes q ↦ rw q (omega (arith, bit-lt m n, count-le n m))
+      | no q ↦ count-all n m i (omega (arith, bit-lt m n)) (omega arith)
+    ]
+
 -- the part of a set below n has no more members than that of a set that it is within
 pub count-mono : (n a b : ℕ) → ((k : ℕ) → k < n → bit a k ≤ bit b k) → count_below n a ≤ count_below n b
 unfolding count_below

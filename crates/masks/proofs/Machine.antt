@@ -6,7 +6,8 @@ use native.Mathlib.Nat.{one-mul, mod-eq_of_lt, pow-suc, pow-succ', div-div-eq-di
 use native.Mathlib.Decide.{dec_lt}
 use native.Mathlib.Omega.{arith}
 use lib.Pow.{pow-lt, pow_pos, pow_mono, ones_lt}
-use lib.Bits.{bit_and, bit_or, and_step, or_step, and_self}
+use lib.Dec.{eqb}
+use lib.Bits.{bit_and, bit_or, and_step, or_step, and_self, and_mask}
 use lib.Count.{ones, ones_step, count_trailing_zeros, under}
 use Rattle.masks.specs.Sets.{bit, In, count_below, Inserted, Removed, Lowest, Full}
 use Rattle.masks.proofs.Laws.{bit-lt, bit-zero, bit_high, in_pos}
@@ -57,6 +58,9 @@ shifted : (w j : ℕ) → j < w → (1 * 2 ^ j) % 2 ^ w ≡ 2 ^ j
 shifted w j h = omega (arith, mod-eq_of_lt (pow-lt h), one-mul (2 ^ j), ap (λ (x : ℕ). x % 2 ^ w) (one-mul (2 ^ j)))
 
 -- ---- the functions
+
+pub has_is : (m i : ℕ) → eqb (bit_and (m / 2 ^ i) 1) 1 ≡ eqb (bit m i) 1
+has_is m i = rw (bit-shr m i) (ap (λ (n : ℕ). eqb n 1) (and_mask (m / 2 ^ i) 1))
 
 pub insert-is : (m i : ℕ) → i < 32 → Inserted m i (bit_or m ((1 * 2 ^ i) % 4294967296))
 insert-is m i h = rw (shifted 32 i h) (record {
@@ -146,3 +150,6 @@ pub ones-count : (n m : ℕ) → m < 2 ^ n → ones m ≡ count_below n m
 unfolding ones count_below
 ones-count zero m h = let e : m ≡ 0 = omega arith in rw e refl
 ones-count (suc n) m h = omega (arith, ones_step m, ones-count n (m / 2) (omega (arith, pow-suc 2 n)), count-step n m)
+
+-- what the proofs of the functions use
+pub ruleset operations = (bit-or, bit-and, has_is, minus_is, full_is, lowest-is, ones-count)

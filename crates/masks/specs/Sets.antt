@@ -1,6 +1,8 @@
 -- A set of seats as one number: at most 32 seats, so 32 bits, and bit i says whether seat i is in the set.
 -- Membership is the number `bit m i`, 0 or 1, so arithmetic does the reasoning on sets.
-use Rattle.std.specs.Prelude.{◌≡◌, ◌≢◌, ℕ, zero, suc, ◌+◌, ◌/◌, ◌%◌, ◌<◌, ◌≤◌}
+use Rattle.std.specs.Prelude.{◌≡◌, ◌≢◌, Option, None, Some, ℕ, zero, suc, ◌+◌, ◌/◌, ◌%◌, ◌<◌, ◌≤◌}
+use Rattle.std.specs.Iterator.{Count, at_most}
+use Rattle.masks.specs.declared.Members.{Members}
 
 -- the binary digit i of m: 1 where i is in the set m, 0 where it is not
 unfoldable pub bit : ℕ → ℕ → ℕ
@@ -44,3 +46,12 @@ pub record Lowest (m r : ℕ) : Type 0 where
 pub record Full (n r : ℕ) : Type 0 where
   pub inside : (k : ℕ) → k < n → In k r
   pub outside : (k : ℕ) → n ≤ k → bit r k ≡ 0
+
+-- a turn of a walk over the members of a set: the lowest seat comes out of what is left, or nothing is left
+abbrev pub TakesLowest : Members → Option ℕ → Members → Type 0
+TakesLowest s None t = s.left ≡ 0
+TakesLowest s (Some i) t = Lowest s.left i × Removed s.left i t.left
+
+-- as many seats are to come as are left
+abbrev pub seats_left : Members → Count
+seats_left s = at_most (size_of s.left)

@@ -1,8 +1,8 @@
 // Sets of seats, as masks of 32 bits. The empty set is 0. No other crate names an operation on bits.
-#![tactic(auto)]
+#![tactic(auto, using(crate::proofs::Machine::operations))]
 
 ghost use Rattle.std.specs.Prelude.{◌≡◌, true, false, ℕ, ◌-◌, ◌≤◌, ◌<◌, min, max, eqb};
-ghost use Rattle.masks.specs.Sets.{bit, size_of, Inserted, Removed, Lowest, Full};
+ghost use Rattle.masks.specs.Sets.{bit, size_of, Inserted, Removed, Lowest, Full, TakesLowest, seats_left};
 
 // Whether seat i is in the set.
 pub fn has(set: u32, i: usize) -> bool
@@ -33,10 +33,7 @@ pub fn with(set: u32, i: usize, on: bool) -> u32
     requires { i < 32 }
     ensures { (on ≡ true → Inserted set i result) × (on ≡ false → Removed set i result) }
 {
-    if on {
-        return insert(set, i);
-    }
-    remove(set, i)
+    if on { insert(set, i) } else { remove(set, i) }
 }
 
 pub fn union(a: u32, b: u32) -> u32
@@ -71,7 +68,7 @@ pub fn lowest(set: u32) -> usize
     requires { 0 < set }
     ensures { Lowest set result }
 {
-    u32::trailing_zeros(set) as usize
+    set.trailing_zeros() as usize
 }
 
 // The set without its lowest seat.
@@ -86,5 +83,38 @@ pub fn remove_lowest(set: u32) -> u32
 pub fn size(set: u32) -> u32
     ensures { result ≡ size_of set }
 {
-    u32::count_ones(set)
+    set.count_ones()
+}
+
+// The seats of a set in turn, the lowest first.
+#[derive(Clone, Copy, Debug, PartialEq, Eq)]
+pub struct Members {
+    // The seats that are still to come.
+    pub left: u32,
+}
+
+impl Members {
+    // Those of a set.
+    pub fn of(set: u32) -> Members
+        ensures { result.left ≡ set }
+    {
+        Members { left: set }
+    }
+}
+
+impl Iterator for Members {
+    type Item = usize;
+
+    ghost next_gives = { TakesLowest };
+
+    ghost remaining = { seats_left };
+
+    fn next(&mut self) -> Option<usize> {
+        if self.left == 0 {
+            return None;
+        }
+        let i = lowest(self.left);
+        self.left = remove_lowest(self.left);
+        Some(i)
+    }
 }

@@ -1,4 +1,5 @@
 -- The laws that the functions' proofs cite.
+pub mod Spreading
 pub mod Meeting
 pub mod Walking
 -- what callers cite

@@ -1,16 +1,13 @@
 -- What the search for a shortest path answers, and what its parts do.
-use Rattle.std.specs.Prelude.{◌≡◌, List, map, ◌↔◌, ℕ, ◌<◌, length, take}
+use Rattle.std.specs.Prelude.{◌≡◌, List, map, ◌↔◌, ℕ, length, take}
 use Rattle.fairness.specs.Instance.{Instance, Sheet}
 use Rattle.fairness.specs.Exchange as fairness
 use Rattle.sheet.specs.declared.Move.{Move}
 use Rattle.sheet.specs.Sheets.{move_of}
 use Rattle.masks.specs.Sets.{In}
 use Rattle.reach.specs.declared.Graph.{Graph}
-use Rattle.reach.specs.Graphs.{set_at, Leads, Takes, Reach}
-use Rattle.paths.specs.declared.Kind.{Kind}
-use Rattle.paths.specs.declared.ExchangePath.{ExchangePath}
+use Rattle.reach.specs.Graphs.{set_at, Leads, Takes}
 use Rattle.paths.specs.Layers.{Layers}
-use Rattle.paths.specs.Paths.{moves_of}
 
 -- the graph shows the moves that are possible: the taker has room in the window, and the giver holds a credit there
 abbrev pub Drawn : Instance → Sheet → Graph → Type 0
@@ -32,12 +29,3 @@ pub record Leading (graph : Graph) (sets : List ℕ) (donor count : ℕ) (moves 
   pub counted : length (map move_of (take count moves)) ≡ count
   pub path : (I : Instance) (S : Sheet) (g : ℕ) → Drawn I S graph → Layers graph g sets →
       fairness.Path I S g donor (map move_of (take count moves))
-
--- an exchange path from g to l that has the fewest moves
-pub record Nearest (kind : Kind) (graph : Graph) (g l : ℕ) (x : ExchangePath) : Type 0 where
-  pub kind_is : x.kind ≡ kind
-  pub receiver_is : x.receiver ≡ g
-  pub donor_is : x.donor ≡ l
-  pub fewest : (r : ℕ) → r < x.count → Reach graph r g l → ⊥
-  pub counted : length (moves_of x) ≡ x.count
-  pub path : (I : Instance) (S : Sheet) → Drawn I S graph → fairness.Path I S g l (moves_of x)

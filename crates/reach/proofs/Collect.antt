@@ -42,8 +42,8 @@ module _ (P : ℕ → Type 0) (n m : ℕ) (c : Collects n P m) where
 
 -- no sets yet, where no number below n is in the relation
 pub rows_none : (P : ℕ → ℕ → Type 0) (n m : ℕ) → ((i k : ℕ) → i < n → P i k → ⊥) → Rows n P (replicate m 0)
-rows_none P n m None i k =
-    (λ p. absurd (omega (arith, rw (zeros-at m i) at p, bit-zero k)), λ h. absurd (None i k h.0 h.1))
+rows_none P n m none i k =
+    (λ p. absurd (omega (arith, rw (zeros-at m i) at p, bit-zero k)), λ h. absurd (none i k h.0 h.1))
 
 -- one row more
 pub rows_next : (P : ℕ → ℕ → Type 0) (n : ℕ) (sets : List ℕ) → Rows n P sets → n < length sets

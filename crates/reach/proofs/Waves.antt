@@ -1,12 +1,12 @@
 -- The search outward from a seat: each move keeps what holds of it, and at its end all was seen. Assumes nothing.
-use mathlib.Core.Path.{◌≡◌}
-use mathlib.Core.Logic.{inl, inr, ◌↔◌}
+use mathlib.Core.Path.{◌≡◌, refl}
+use mathlib.Core.Logic.{◌⊎◌, inl, inr, ◌↔◌}
 use Prim.Native.Nat.{ℕ, zero, suc, ◌+◌, ◌-◌, ◌^◌, ◌<◌, min, max}
 use native.Mathlib.Numerals.{add-one}
 use native.Mathlib.Decide.{ℕ_discrete, dec_lt}
 use native.Mathlib.Omega.{arith}
 use lib.ListN.{length}
-use Rattle.masks.specs.Sets.{bit, In, Within, size_of, Inserted, Full, Lowest}
+use Rattle.masks.specs.Sets.{bit, In, size_of, Inserted, Full, Lowest}
 use Rattle.masks.proofs.Laws.{bit-lt, bit-zero, size-le, within-size, within-less}
 use Rattle.masks.proofs.Machine.{lowest-is}
 use lib.Count.{count_trailing_zeros}
@@ -135,17 +135,6 @@ grown w far front seen windows fresh joined = record {
   new = λ l p. (omega (arith, fresh l, bit-lt far l), omega (arith, joined l, bit-lt seen l));
 }
 
--- what was seen did not grow, so nothing came in front
-pub not_more : (before after : Wave) → Grown before after → after.front < 2 ^ 32 → Within after.front before.seen → after.front ≡ 0
-not_more before after grown fits within =
-    elim (dec_lt 0 after.front) [
-      | no z ↦ omega arith
-      | yes p ↦
-          let l = count_trailing_zeros 32 after.front in
-          let low : Lowest after.front l = lowest-is after.front p fits in
-          absurd (omega (arith, low.here, (grown.new l low.here).0, within l))
-    ]
-
 -- ---- it ends: each move but the last reaches a seat that was not seen
 
 -- how far the search has to go at the most
@@ -163,4 +152,22 @@ ahead-less before after grown here fits =
           let new = grown.new l low.here in
           let less = within-less before.seen after.seen l low.small grown.more (omega (arith, new.0, new.1)) in
           omega (arith, less, size-le after.seen)
+    ]
+
+-- so after n moves nothing is in front, or more than n seats were seen
+abbrev pub Growing : ℕ → Wave → Type 0
+Growing n w = (w.front ≡ 0) ⊎ (n < size_of w.seen)
+
+pub growing-first : (graph : Graph) (g : ℕ) (w : Wave) → g < 32 → Spread graph g 0 w → Growing 0 w
+growing-first graph g w l s =
+    let here : In g w.seen = (s.layer g).1 refl in
+    inr (omega (arith, within-less 0 w.seen g l (λ k. omega (arith, bit-zero k)) (omega (arith, bit-zero g, here))))
+
+pub growing-next : (n : ℕ) (before after : Wave) → Grown before after → Growing n before → 0 < before.front → after.front < 2 ^ 32
+    → Growing (n + 1) after
+growing-next n before after grown (inl z) here fits = absurd (omega arith)
+growing-next n before after grown (inr h) here fits =
+    elim (dec_lt 0 after.front) [
+      | no z ↦ inl (omega arith)
+      | yes p ↦ inr (omega (arith, ahead-less before after grown here fits, size-le after.seen))
     ]

@@ -6,9 +6,9 @@ ghost use Rattle.std.specs.Io.KnownBytes.{Appends};
 ghost use Rattle.streams.specs.Streams.{AppendsFront, AppendsSome};
 
 use dayfile::{Check, Written};
+use itoa::Buffer;
 use std::io::{self, Write};
 use streams::write_front;
-use text::put_decimal;
 
 pub mod numbers;
 
@@ -25,9 +25,7 @@ pub fn say_text<W: Write>(to: &mut W, text: &[u8]) -> io::Result<()>
 pub fn say_number<W: Write>(to: &mut W, n: usize) -> io::Result<()>
     ensures { AppendsSome (W.contents to.old) (W.contents to.new) }
 {
-    let mut text = [0u8; 20];
-    let end = put_decimal(&mut text, 0, n);
-    say_text(to, &text[..end])
+    say_text(to, Buffer::new().format(n).as_bytes())
 }
 
 const DIGITS: [u8; 16] = *b"0123456789abcdef";
@@ -35,7 +33,10 @@ const DIGITS: [u8; 16] = *b"0123456789abcdef";
 fn say_byte<W: Write>(to: &mut W, x: u8) -> io::Result<()>
     ensures { AppendsSome (W.contents to.old) (W.contents to.new) }
 {
-    say_text(to, &[DIGITS[x as usize / 16], DIGITS[x as usize % 16]])
+    say_text(
+        to,
+        &[DIGITS[usize::from(x / 16)], DIGITS[usize::from(x % 16)]],
+    )
 }
 
 // Bytes in hexadecimal, and the line's end.
@@ -70,7 +71,7 @@ pub fn say_refusal<W: Write>(to: &mut W, number: u8, at: usize) -> io::Result<()
     ensures { AppendsSome (W.contents to.old) (W.contents to.new) }
 {
     say_text(to, b"refused ")?;
-    say_number(to, number as usize)?;
+    say_number(to, usize::from(number))?;
     say_text(to, b" at ")?;
     say_number(to, at)
 }
@@ -128,22 +129,12 @@ pub fn say_reply<W: Write>(to: &mut W, r: Reply) -> io::Result<()>
 
 // The first n bytes, or all where there are fewer.
 pub fn front(s: &[u8], n: usize) -> &[u8] {
-    if n < s.len() {
-        return &s[..n];
-    }
-    s
+    &s[..n.min(s.len())]
 }
 
 // Whether the bytes from an offset on all have one value.
 pub fn all_from(bytes: &[u8], at: usize, value: u8) -> bool {
-    let mut i = at;
-    while i < bytes.len() {
-        if bytes[i] != value {
-            return false;
-        }
-        i += 1;
-    }
-    true
+    bytes.iter().skip(at).all(|b| *b == value)
 }
 
 // The numbers from 0 on that a report has a line for.
@@ -170,7 +161,7 @@ fn say_row<W: Write>(to: &mut W, counts: &[u32; COUNTS], row: usize) -> io::Resu
     let a = counts[3 * row];
     let b = counts[3 * row + 1];
     let c = counts[3 * row + 2];
-    if (a == 0) & (b == 0) & (c == 0) {
+    if a == 0 && b == 0 && c == 0 {
         return Ok(());
     }
     say_text(to, b"  ")?;

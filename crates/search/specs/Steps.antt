@@ -1,39 +1,36 @@
 -- What the search and its parts answer.
-use Rattle.std.specs.Prelude.{◌≡◌, ℕ, ◌<◌}
+use Rattle.std.specs.Prelude.{◌≡◌, Option, None, Some, List, ℕ, ◌<◌, length}
 use Rattle.reach.specs.declared.Graph.{Graph}
-use Rattle.paths.specs.declared.Kind.{Kind}
-use Rattle.paths.specs.declared.Kind.TheVariants.{None, Improving, WronglyTied}
-use Rattle.paths.specs.declared.ExchangePath.{ExchangePath}
-use Rattle.paths.specs.Steps.{Nearest}
-use Rattle.receiver.specs.declared.Scores.{Scores}
+use Rattle.paths.specs.declared.Path.{Path}
+use Rattle.paths.specs.Paths.{Nearest}
+use Rattle.receiver.specs.declared.Kind.{Kind}
+use Rattle.receiver.specs.declared.Kind.TheVariants.{Improving, WronglyTied}
+use Rattle.receiver.specs.declared.Score.{Score}
 use Rattle.receiver.specs.Donors.{Donor, NoDonor}
-use Rattle.search.specs.declared.Pair.{Pair}
-use Rattle.search.specs.declared.Pair.TheVariants.{Nobody, Between}
-
--- ---- a receiver and a donor
+use Rattle.search.specs.declared.Exchange.{Exchange}
 
 -- the first receiver that has a donor, and its lowest one
-pub record FirstPair (kind : Kind) (scores : Scores) (graph : Graph) (seats g l : ℕ) : Type 0 where
-  pub seat : g < seats
-  pub donor : Donor kind scores graph seats g l
-  pub lowest : (k : ℕ) → k < l → Donor kind scores graph seats g k → ⊥
-  pub earlier : (h k : ℕ) → h < g → Donor kind scores graph seats h k → ⊥
+pub record FirstPair (kind : Kind) (scores : List Score) (graph : Graph) (g l : ℕ) : Type 0 where
+  pub seat : g < length scores
+  pub donor : Donor kind scores graph g l
+  pub lowest : (k : ℕ) → k < l → Donor kind scores graph g k → ⊥
+  pub earlier : (h k : ℕ) → h < g → Donor kind scores graph h k → ⊥
 
--- the first pair, or the fact that there is none
-abbrev pub Firsts : Kind → Scores → Graph → ℕ → Pair → Type 0
-Firsts kind scores graph seats Nobody = NoDonor kind scores graph seats
-Firsts kind scores graph seats (Between g l) = FirstPair kind scores graph seats g l
+-- an exchange path whose receiver and donor are the first pair, and it has the fewest moves between the two
+abbrev pub FirstPath : Kind → List Score → Graph → Path → Type 0
+FirstPath kind scores graph x =
+    FirstPair kind scores graph x.receiver x.donor × Nearest graph x.receiver x.donor x
 
--- ---- the answer
+-- an exchange of a kind with such a path
+abbrev pub FirstOf : Kind → List Score → Graph → Exchange → Type 0
+FirstOf kind scores graph x = (x.kind ≡ kind) × FirstPath kind scores graph x.path
 
--- an exchange path of a kind: its receiver and donor are the first pair, and it has the fewest moves between the two
-abbrev pub FirstPath : Kind → Scores → Graph → ℕ → ExchangePath → Type 0
-FirstPath kind scores graph seats x =
-    FirstPair kind scores graph seats x.receiver x.donor × Nearest kind graph x.receiver x.donor x
+-- by its kind, what an exchange is that the search finds: one that improves, or, where there is none, one that ties wrongly
+abbrev pub Found : Kind → List Score → Graph → Path → Type 0
+Found Improving scores graph x = FirstPath Improving scores graph x
+Found WronglyTied scores graph x = NoDonor Improving scores graph × FirstPath WronglyTied scores graph x
 
--- what the search finds, by the kind of path: one that improves; where there is none, one that ties wrongly; or neither, and so no moves
-abbrev pub Finds : Kind → Scores → Graph → ℕ → ExchangePath → Type 0
-Finds None scores graph seats x =
-    (x.count ≡ 0) × (NoDonor Improving scores graph seats × NoDonor WronglyTied scores graph seats)
-Finds Improving scores graph seats x = FirstPath Improving scores graph seats x
-Finds WronglyTied scores graph seats x = NoDonor Improving scores graph seats × FirstPath WronglyTied scores graph seats x
+-- what the search finds: an exchange, or that there is none of either kind
+abbrev pub Finds : List Score → Graph → Option Exchange → Type 0
+Finds scores graph None = NoDonor Improving scores graph × NoDonor WronglyTied scores graph
+Finds scores graph (Some x) = Found x.kind scores graph x.path

@@ -1,49 +1,39 @@
 // The search on scores and a graph in memory: the first receiver that reaches a donor, and a shortest path between the two.
 #![tactic(auto)]
 
-ghost use Rattle.std.specs.Prelude.{◌≤◌};
-ghost use Rattle.receiver.specs.Tests.{Bounded};
-ghost use Rattle.search.specs.Steps.{Firsts, Finds};
+ghost use Rattle.std.specs.Prelude.{◌≤◌, length, MatchOption};
+ghost use Rattle.receiver.specs.Donors.{NoDonor};
+ghost use Rattle.search.specs.Steps.{FirstOf, Finds};
 
-use paths::{ExchangePath, Kind, no_path, path_to};
+use masks::{intersect, lowest};
+use paths::Path;
 use reach::Graph;
-use receiver::{Receiver, Scores, first_receiver, wanted_by};
+use receiver::{Kind, Score};
 
-// A receiver and a donor that it reaches.
+// An exchange that is wanted: what for, and the path.
 #[derive(Clone, Copy)]
-pub enum Pair {
-    Nobody,
-    Between { receiver: usize, donor: usize },
+pub struct Exchange {
+    pub kind: Kind,
+    pub path: Path,
 }
 
-// The first receiver that reaches a donor which is wanted for it, and its lowest such donor.
-fn first_pair(kind: Kind, scores: Scores, graph: Graph, seats: usize) -> Pair
-    requires { (seats ≤ 32) × Bounded seats scores }
-    ensures { Firsts kind scores graph seats result }
+// The first exchange of a kind: that of the first receiver that reaches a donor which is wanted for it, with its lowest such donor, by a
+// shortest path.
+fn first_of(kind: Kind, scores: &[Score], graph: &Graph) -> Option<Exchange>
+    requires { length scores.now ≤ 32 }
+    ensures { MatchOption result (NoDonor kind scores.now graph.now) (FirstOf kind scores.now graph.now) }
 {
-    match first_receiver(kind, scores, graph, seats) {
-        Receiver::Nobody => Pair::Nobody,
-        Receiver::Seat(g) => {
-            let wanted = wanted_by(kind, scores, seats, g);
-            let donors = masks::intersect(wanted, reach::reached(graph, g));
-            Pair::Between {
-                receiver: g,
-                donor: masks::lowest(donors),
-            }
-        }
-    }
+    let receiver = kind.first_receiver(scores, graph)?;
+    let wanted = kind.wanted_by(scores, receiver);
+    let donors = intersect(wanted, graph.reached(receiver));
+    let path = Path::shortest(graph, receiver, lowest(donors));
+    Some(Exchange { kind, path })
 }
 
-// The first pair that improves and a shortest path between the two; where there is none the same for pairs that tie wrongly; or no path.
-pub fn find(scores: Scores, graph: Graph, seats: usize) -> ExchangePath
-    requires { (seats ≤ 32) × Bounded seats scores }
-    ensures { Finds result.kind scores graph seats result }
+// The first exchange that improves; where there is none, the first that ties wrongly.
+pub fn find(scores: &[Score], graph: &Graph) -> Option<Exchange>
+    requires { length scores.now ≤ 32 }
+    ensures { Finds scores.now graph.now result }
 {
-    if let Pair::Between { receiver, donor } = first_pair(Kind::Improving, scores, graph, seats) {
-        return path_to(Kind::Improving, graph, receiver, donor);
-    }
-    if let Pair::Between { receiver, donor } = first_pair(Kind::WronglyTied, scores, graph, seats) {
-        return path_to(Kind::WronglyTied, graph, receiver, donor);
-    }
-    no_path()
+    first_of(Kind::Improving, scores, graph).or_else(|| first_of(Kind::WronglyTied, scores, graph))
 }

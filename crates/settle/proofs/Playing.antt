@@ -5,13 +5,16 @@ use Prim.Native.Nat.{ℕ, suc, ◌+◌, ◌≤◌, ◌<◌}
 use native.Mathlib.Nat.{le_trans}
 use native.Mathlib.Numerals.{add-one}
 use native.Mathlib.Omega.{arith}
-use lib.ListN.{length, get_or, drop, drop_of_length-le}
+use lib.ListN.{length, get_or, take, drop, drop_of_length-le, length-map, get_or-map}
 use lib.Seq.{drop-cons}
 use Rattle.fairness.specs.Instance.{Instance, Sheet}
 use Rattle.fairness.specs.Exchange.{Move, play, play_all, PlaysOut}
 use Rattle.model.specs.Book.{Grid, cell}
+use Rattle.paths.specs.declared.Path.{Path}
+use Rattle.paths.specs.Paths.{moves_of}
+use Rattle.sheet.specs.declared.Move as stored
 use Rattle.sheet.specs.declared.Sheet as memory
-use Rattle.sheet.specs.Sheets.{credit, grid_of, Playable}
+use Rattle.sheet.specs.Sheets.{credit, grid_of, move_of, Playable}
 use Rattle.sheet.proofs.Cells.{credit-is}
 use Rattle.sheet.proofs.Moves.{playable}
 use Rattle.settle.specs.Playing.{AllPlayable, Plays}
@@ -23,6 +26,14 @@ all-playable I S [] a b caps p = tt
 all-playable I S (m ∷ ms) a b caps p =
     let cap = caps m.taker m.window p.0.in_taker p.0.in_window in
     (playable I S m a b (le_trans cap (omega arith)) p.0, all-playable I (play S m) ms a b caps p.1)
+
+-- the moves of a path in memory, as a list of its own
+module _ (path : Path) (items : List stored.Move) (e : items ≡ take path.count path.moves) where
+  pub items-long : length (moves_of path) ≡ length items
+  items-long = rw e (length-map (take path.count path.moves) move_of)
+
+  pub item-is : (i : ℕ) (d : stored.Move) → get_or (moves_of path) i (move_of d) ≡ move_of (get_or items i d)
+  item-is i d = rw e (get_or-map move_of (take path.count path.moves) i d)
 
 module _ (S : Sheet) (ms : List Move) where
   -- T is the sheet after the first k moves

@@ -12,21 +12,18 @@ ghost use Rattle.settle.specs.Playing.{AllPlayable, Plays};
 
 use exchange::find_path;
 use instance::Terms;
-use paths::{ExchangePath, Kind};
+use paths::Path;
 use sheet::{Grid, Sheet};
 
 // The grid after the moves of an exchange path, played one after another.
-pub fn play_path(grid: Grid, path: ExchangePath) -> Grid
-    requires writable { Writable path }
-    requires all_playable { AllPlayable (cell grid) (moves_of path) }
-    ensures { Plays (cell grid) (moves_of path) (cell result) }
+pub fn play_path(grid: Grid, path: &Path) -> Grid
+    requires writable { Writable path.now }
+    requires all_playable { AllPlayable (cell grid) (moves_of path.now) }
+    ensures { Plays (cell grid) (moves_of path.now) (cell result) }
 {
-    let count = path.count;
-    let moves = path.moves;
     let mut after = Sheet::from_grid(grid);
-    for k in 0..count {
-        let m = moves[k];
-        after = after.play(m);
+    for m in path.moves() {
+        after = after.play(*m);
     }
     after.to_grid()
 }
@@ -37,12 +34,7 @@ pub fn settle(grid: &mut Grid, caps: &Grid, t: Terms)
     requires full { Full (instance_in t caps.now) (cell grid.old) }
     ensures { (I : Instance) → Told I t caps.now → Settled I (cell grid.new) }
 {
-    loop {
-        let path = find_path(grid, caps, t);
-        let kind = path.kind;
-        if let Kind::None = kind {
-            return;
-        }
-        *grid = play_path(*grid, path);
+    while let Some(found) = find_path(grid, caps, t) {
+        *grid = play_path(*grid, &found.path);
     }
 }

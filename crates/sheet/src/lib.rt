@@ -1,6 +1,8 @@
 // The data in memory: a sheet of credits as arrays, its sums and its moves.
 #![tactic(auto)]
 
+pub mod size;
+
 ghost use Rattle.std.specs.Prelude.{◌≡◌, ℕ, ◌*◌, ◌≤◌, ◌<◌, get_or};
 ghost use Rattle.fairness.specs.Sums.{sum};
 ghost use Rattle.fairness.specs.Exchange.{play};

@@ -44,7 +44,7 @@ module _ (t : Terms) (caps g : Grid) (small : Small t caps) (shape : Shaped 32 2
 
   module _ (r : Grid) (keeps : Keeps t.seats t.windows caps g r) where
     after : Filled t.seats t.windows caps held r
-    after = keeps held filled
+    after = keeps.kept held filled
 
     feasible : Feasible (instance_in t caps) (cell r)
     feasible =

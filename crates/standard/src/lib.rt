@@ -10,15 +10,14 @@ ghost use Rattle.model.specs.Book.{cell, Shaped};
 ghost use Rattle.instance.specs.Terms.{instance_in, Told, Small};
 
 use climb::climb;
-use fill::Size;
 use instance::Terms;
 use raise::raise;
+use sheet::size::Size;
 use sheet::{Grid, row_total};
 use topmost::all_blocked;
 
 // Whether each seat has the same total in two grids.
 fn same_totals(a: &Grid, b: &Grid, size: Size) -> bool
-    requires { (size.seats ≤ 32) × (size.windows ≤ 24) }
     ensures { result ≡ true → (i : ℕ) → i < size.seats →
         sum size.windows (cell a.now i) ≡ sum size.windows (cell b.now i) }
 {

@@ -1,99 +1,86 @@
-// The residual graph of a grid: who can take and who can give in each window, and what seats are ranked by.
+// The residual graph of a grid: who can take and who can give in each window, what seats are ranked by, and shortest paths.
 ghost use Rattle.std.specs.Prelude.{◌<◌, ◌≤◌};
 
-use fill::room;
+use crate::credit::Credit;
+use fill::{Graph, Step, Transfer, room};
 use instance::Terms;
 use masks::with;
-use sheet::{Grid, Move};
+use sheet::{Grid, row_total};
 
-// All of it in one array of rows, which is lent whole.
-pub(crate) type Residual = [[u32; 32]; 5];
+// A seat's step but for the seat: the window where it gives, and who takes there.
+#[derive(Clone, Copy, Debug, PartialEq, Eq)]
+pub(crate) struct Hop {
+    pub window: u8,
+    pub taker: u8,
+    // A grid has such a window and such a seat.
+    ghost in_range: { (window < 24) × (taker < 32) },
+}
 
-// For each window the set of seats that can take there, and of those that can give.
-pub(crate) const TAKERS: usize = 0;
-
-pub(crate) const GIVERS: usize = 1;
-// For each seat its height, which is its base and its total; its weight; and its place in the order of the seat rule.
-pub(crate) const HEIGHTS: usize = 2;
-
-pub(crate) const WEIGHTS: usize = 3;
-
-pub(crate) const POSITIONS: usize = 4;
-
-// A phase of capacity scaling: only room for `unit` credits counts, and only `unit` credits held.
-#[derive(Clone, Copy)]
-pub(crate) struct Phase {
-    pub seats: usize,
-    pub windows: usize,
+#[derive(Drop)]
+pub(crate) struct Residual {
+    // Only room for so many credits counts, and only so many credits held.
     pub unit: u16,
+    // For each window the seats that can take there, and those that can give.
+    pub takers: [u32; 24],
+    pub givers: [u32; 24],
+    // For each seat the credit that it would get next.
+    pub next: [Credit; 32],
+    // The tree of shortest paths: for each seat that was reached, but for the receiver, its hop towards the receiver.
+    pub hops: [Hop; 32],
 }
 
-// Notes whether a seat can take and whether it can give in a window.
-fn note(residual: &mut Residual, grid: &Grid, caps: &Grid, unit: u16, seat: usize, window: usize)
-    requires { (seat < 32) × (window < 24) }
-{
-    let cell = grid[seat][window];
-    let takes = unit <= room(cell, caps[seat][window]);
-    residual[TAKERS][window] = with(residual[TAKERS][window], seat, takes);
-    residual[GIVERS][window] = with(residual[GIVERS][window], seat, unit <= cell);
-}
+impl Residual {
+    // That of a grid, with what seats are ranked by. A book's heights never wrap. Who can take and who can give is not noted yet.
+    pub(crate) fn new(grid: &Grid, t: Terms) -> Residual
+        requires { (t.seats ≤ 32) × (t.windows ≤ 24) }
+    {
+        let mut residual = Residual {
+            unit: 1,
+            takers: [0; 24],
+            givers: [0; 24],
+            next: [Credit {
+                height: 0,
+                weight: 0,
+                position: 0,
+            }; 32],
+            hops: [Hop {
+                window: 0,
+                taker: 0,
+            }; 32],
+        };
+        for i in 0..t.seats {
+            residual.next[i] = Credit {
+                height: t.bases[i].wrapping_add(row_total(&grid[i], t.windows)),
+                weight: t.weights[i],
+                position: t.positions[i],
+            };
+        }
+        residual
+    }
 
-// The same for the seats of a window.
-fn note_window(residual: &mut Residual, grid: &Grid, caps: &Grid, phase: Phase, window: usize)
-    requires { (phase.seats ≤ 32) × (window < 24) }
-{
-    for i in 0..phase.seats {
-        note(residual, grid, caps, phase.unit, i, window);
+    // Notes that so many credits of a transfer went.
+    pub(crate) fn note_heights(&mut self, transfer: Transfer, credits: u16) {
+        let taker = &mut self.next[transfer.taker];
+        taker.height = taker.height.wrapping_add(u32::from(credits));
+        let giver = &mut self.next[transfer.giver];
+        giver.height = giver.height.wrapping_sub(u32::from(credits));
     }
 }
 
-// The same for all windows.
-pub(crate) fn note_all(residual: &mut Residual, grid: &Grid, caps: &Grid, phase: Phase)
-    requires { (phase.seats ≤ 32) × (phase.windows ≤ 24) }
-{
-    for w in 0..phase.windows {
-        note_window(residual, grid, caps, phase, w);
+impl Graph for Residual {
+    fn step(&self, giver: usize) -> Step {
+        let hop = self.hops[giver];
+        Step {
+            window: usize::from(hop.window),
+            giver,
+            taker: usize::from(hop.taker),
+        }
     }
-}
 
-// Each seat's base and total. A book's never wrap.
-fn heights_of(grid: &Grid, t: Terms) -> [u32; 32]
-    requires { (t.seats ≤ 32) × (t.windows ≤ 24) }
-{
-    let seats = t.seats;
-    let windows = t.windows;
-    let mut heights = t.bases;
-    for i in 0..seats {
-        let total = sheet::row_total(&grid[i], windows);
-        heights[i] = std::num::wrapping_add_u32(heights[i], total);
+    fn note(&mut self, grid: &Grid, caps: &Grid, seat: usize, window: usize) {
+        let cell = grid[seat][window];
+        let takes = self.unit <= room(cell, caps[seat][window]);
+        self.takers[window] = with(self.takers[window], seat, takes);
+        self.givers[window] = with(self.givers[window], seat, self.unit <= cell);
     }
-    heights
-}
-
-// What seats are ranked by. Who can take and who can give is not noted yet.
-pub(crate) fn ranks_of(grid: &Grid, t: Terms) -> Residual
-    requires { (t.seats ≤ 32) × (t.windows ≤ 24) }
-{
-    let none = [0u32; 32];
-    let heights = heights_of(grid, t);
-    let weights = t.weights;
-    let positions = t.positions;
-    [none, none, heights, weights, positions]
-}
-
-// Notes anew whether the two seats of a step can take and give in its window.
-pub(crate) fn note_step(residual: &mut Residual, grid: &Grid, caps: &Grid, unit: u16, step: Move)
-    requires { (step.window < 24) × ((step.giver < 32) × (step.taker < 32)) }
-{
-    note(residual, grid, caps, unit, step.giver, step.window);
-    note(residual, grid, caps, unit, step.taker, step.window);
-}
-
-// Notes that so many credits went from a donor to a receiver.
-pub(crate) fn note_heights(residual: &mut Residual, receiver: usize, donor: usize, credits: u16)
-    requires { (receiver < 32) × (donor < 32) }
-{
-    let n = credits as u32;
-    residual[HEIGHTS][receiver] = std::num::wrapping_add_u32(residual[HEIGHTS][receiver], n);
-    residual[HEIGHTS][donor] = std::num::wrapping_sub_u32(residual[HEIGHTS][donor], n);
 }

@@ -23,11 +23,8 @@ pub fn read_front<R: Read>(from: &mut R, buf: &mut [u8]) -> io::Result<usize>
         match from.read(&mut buf[at..]) {
             Ok(0) => return Ok(at),
             Ok(n) => at += n,
-            Err(e) => {
-                if e.kind() != ErrorKind::Interrupted {
-                    return Err(e);
-                }
-            }
+            Err(e) if e.kind() == ErrorKind::Interrupted => {}
+            Err(e) => return Err(e),
         }
     }
     Err(io::Error::from(ErrorKind::Interrupted))
@@ -46,11 +43,8 @@ pub fn write_front<W: Write>(to: &mut W, bytes: &[u8]) -> io::Result<()>
         match to.write(rest) {
             Ok(0) => return Err(io::Error::from(ErrorKind::WriteZero)),
             Ok(n) => rest = &rest[n..],
-            Err(e) => {
-                if e.kind() != ErrorKind::Interrupted {
-                    return Err(e);
-                }
-            }
+            Err(e) if e.kind() == ErrorKind::Interrupted => {}
+            Err(e) => return Err(e),
         }
     }
     Err(io::Error::from(ErrorKind::WriteZero))

@@ -1,11 +1,13 @@
 -- Laws of digits.
 use mathlib.Core.Path.{◌≡◌, refl, sym, ap, ◌∙◌}
-use mathlib.Core.List.{[], ◌∷◌}
+use mathlib.Core.List.{List, [], ◌∷◌, ◌++◌}
 use Prim.Native.Nat.{ℕ, zero, suc, ◌+◌, ◌/◌, ◌%◌, ◌^◌, ◌≤◌, ◌<◌}
 use native.Mathlib.Omega.{arith}
 use native.Mathlib.Decide.{dec_lt}
 use borrow.Author.Tests.{lt-ltb, le-ltb}
 use lib.ListN.{length, length-append}
+use Rattle.std.specs.Fmt as standard
+use Rattle.std.proofs.lemmas.Fmt.{decimal_by_steps}
 use Rattle.text.specs.Text.{digits, width_within, width_of, decimal, four_digits}
 
 pub digits-length : (k n : ℕ) → length (digits k n) ≡ k
@@ -58,11 +60,22 @@ width-le (suc k) n h = go (width-le k (n / 10)) (dec_lt n 10)
 
 -- ---- what a decimal number is
 
-pub decimal-in : (k n : ℕ) → k ≡ width_of n → digits k n ≡ decimal n
-unfolding decimal
-decimal-in k n e = ap (λ (w : ℕ). digits w n) e
+-- a digit before the last, as long as there is one
+decimal_one : (n : ℕ) → n < 10 → decimal n ≡ (48 + n) ∷ []
+unfolding decimal digits
+decimal_one n h = rw (width_one n h) (ap (λ (d : ℕ). (48 + d) ∷ []) (omega arith))
 
-pub decimal-length : (n : ℕ) → length (decimal n) ≡ width_of n
+decimal_more : (n : ℕ) → 10 ≤ n → decimal n ≡ decimal (n / 10) ++ ((48 + n % 10) ∷ [])
+unfolding decimal digits
+decimal_more n h = rw (width-more n h) refl
+
+-- it is what is printed of a number elsewhere, as by `{}`
+pub decimal_is : (n : ℕ) → n < 2 ^ 64 → standard.decimal n ≡ decimal n
+decimal_is n h =
+    decimal_by_steps (λ (k : ℕ) (ds : List ℕ). ds ≡ decimal k) (λ k l. sym (decimal_one k l))
+    (λ k ds l e. ap (λ (xs : List ℕ). xs ++ ((48 + k % 10) ∷ [])) e ∙ sym (decimal_more k l)) n h
+
+decimal-length : (n : ℕ) → length (decimal n) ≡ width_of n
 unfolding decimal
 decimal-length n = digits-length (width_of n) n
 

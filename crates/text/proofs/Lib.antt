@@ -1,4 +1,4 @@
--- What is known of digits, of loops that store them and of opening times, for this crate and those above it.
+-- What is known of digits, of texts that are printed and of opening times, for this crate and those above it.
 pub mod Digits
-pub mod Loops
+pub mod Printing
 pub mod Theorems

@@ -1,2 +1,3 @@
 -- Text in an output buffer.
 pub mod Text
+pub mod Printing

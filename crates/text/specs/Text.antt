@@ -1,12 +1,5 @@
--- Text as bytes, numbers in decimal, and opening times.
-use Rattle.std.specs.Prelude.{Bool, true, false, List, [], ◌∷◌, ◌++◌, ℕ, zero, suc, ◌+◌, ◌*◌, ◌/◌, ◌%◌, ltb}
-use Prim.Native.Char.{code}
-use Prim.Native.String.{String, [] as empty, ◌∷◌ as ◌then◌}
-
--- the bytes of a text of ASCII characters
-abbrev pub ascii : String → List ℕ
-ascii empty = []
-ascii (c then s) = code c ∷ ascii s
+-- Numbers in decimal, and opening times.
+use Rattle.std.specs.Prelude.{List, [], ◌∷◌, ◌++◌, ℕ, zero, suc, ◌+◌, ◌*◌, ◌/◌, ◌%◌, nat_lt, if◌then◌else◌}
 
 -- ---- numbers
 
@@ -15,14 +8,10 @@ unfoldable pub digits : ℕ → ℕ → List ℕ
 digits zero n = []
 digits (suc k) n = digits k (n / 10) ++ ((48 + n % 10) ∷ [])
 
-abbrev pick : Bool → ℕ → ℕ → ℕ
-pick true a b = a
-pick false a b = b
-
 -- how many digits a number takes: 1 below ten, and else one more than a tenth of it does; it looks at no more than k + 1
 unfoldable pub width_within : ℕ → ℕ → ℕ
 width_within zero n = 1
-width_within (suc k) n = pick (ltb n 10) 1 (suc (width_within k (n / 10)))
+width_within (suc k) n = if nat_lt n 10 then 1 else suc (width_within k (n / 10))
 
 -- no number has more digits than itself, 0 apart
 unfoldable pub width_of : ℕ → ℕ

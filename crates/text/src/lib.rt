@@ -1,11 +1,14 @@
-// Text in an output buffer: bytes, numbers in decimal, and times of the day.
+// Text at the front of an output buffer: bytes, numbers in decimal, and times of the day.
 #![tactic(auto)]
 
 ghost use Rattle.std.specs.Prelude.{◌≡◌, ◌<◌};
-ghost use Rattle.lists.specs.Buffers.{Room, Stored};
-ghost use Rattle.text.specs.Text.{digits, width_of, decimal, four_digits, opening_time};
+ghost use Rattle.text.specs.Text.{decimal, four_digits, opening_time};
+ghost use Rattle.text.specs.Printing.{Room, Prints};
+
+use itoa::Buffer;
 
 // When a window opens, counted from 0: hours and minutes read as one number.
+#[tactic(auto, unfolding(crate::specs::Text::opening_time))]
 pub fn opening_time(window: usize) -> u16
     requires { window < 24 }
     ensures { result ≡ opening_time window }
@@ -14,60 +17,55 @@ pub fn opening_time(window: usize) -> u16
     (minutes / 60 * 100 + minutes % 60) as u16
 }
 
-// Stores bytes from `at` on, and returns the place after them.
-pub fn put_bytes(out: &mut [u8], at: usize, src: &[u8]) -> usize
-    requires { Room out.old at src.now }
-    ensures { Stored out.old at src.now out.new result }
-{
-    let mut i = 0;
-    while i < src.len() {
-        out[at + i] = src[i];
-        i += 1;
+// Prints to the front of a buffer. What is printed ends at `at`.
+#[derive(Drop)]
+pub struct Printer<'a> {
+    out: &'a mut [u8],
+    at: usize,
+}
+
+impl<'a> Printer<'a> {
+    pub fn new(out: &'a mut [u8]) -> Printer<'a>
+        ensures same_buffer { result.out.ghost_name ≡ out.entry.ghost_name }
+        ensures kept { result.out.now ≡ out.old }
+        ensures nothing { result.at ≡ 0 }
+    {
+        Printer { out, at: 0 }
     }
-    at + i
-}
 
-// How many digits a number takes.
-fn width(n: usize) -> usize
-    ensures { result ≡ width_of n }
-{
-    let mut rest = n;
-    let mut count = 1;
-    while 10 <= rest {
-        rest = rest / 10;
-        count += 1;
+    // How much is printed.
+    pub fn len(&self) -> usize
+        ensures { result ≡ self.now.at }
+    {
+        self.at
     }
-    count
-}
 
-// A number in so many digits, from the last to the first.
-fn put_digits(out: &mut [u8], at: usize, n: usize, count: usize) -> usize
-    requires { Room out.old at (digits count n) }
-    ensures { Stored out.old at (digits count n) out.new result }
-{
-    let mut rest = n;
-    let mut i = count;
-    while 0 < i {
-        out[at + (i - 1)] = 48 + (rest % 10) as u8;
-        rest = rest / 10;
-        i -= 1;
+    #[tactic(auto, using(std::proofs::lemmas::Slice::overwrites))]
+    pub fn bytes(&mut self, text: &[u8])
+        requires { Room self.old text.now }
+        ensures { Prints self.old text.now self.new }
+    {
+        let end = self.at + text.len();
+        self.out[self.at..end].copy_from_slice(text);
+        self.at = end;
     }
-    at + count
-}
 
-// A number in decimal, without leading zeros.
-pub fn put_decimal(out: &mut [u8], at: usize, n: usize) -> usize
-    requires { Room out.old at (decimal n) }
-    ensures { Stored out.old at (decimal n) out.new result }
-{
-    let count = width(n);
-    put_digits(out, at, n, count)
-}
+    // A number in decimal, without leading zeros.
+    #[tactic(auto, using(crate::proofs::Digits::decimal_is))]
+    pub fn decimal(&mut self, n: usize)
+        requires { Room self.old (decimal n) }
+        ensures { Prints self.old (decimal n) self.new }
+    {
+        self.bytes(Buffer::new().format(n).as_bytes());
+    }
 
-// A time of the day in four digits.
-pub fn put_four(out: &mut [u8], at: usize, n: u16) -> usize
-    requires { Room out.old at (four_digits n) }
-    ensures { Stored out.old at (four_digits n) out.new result }
-{
-    put_digits(out, at, n as usize, 4)
+    // A time of the day in four digits.
+    #[tactic(auto, unfolding(crate::specs::Text::four_digits, crate::specs::Text::digits))]
+    pub fn four_digits(&mut self, n: u16)
+        requires { Room self.old (four_digits n) }
+        ensures { Prints self.old (four_digits n) self.new }
+    {
+        let digits = [n / 1000, n / 100, n / 10, n].map(|d| b'0' + (d % 10) as u8);
+        self.bytes(&digits);
+    }
 }

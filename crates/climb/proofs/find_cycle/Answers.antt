@@ -1,18 +1,19 @@
 -- `climb::find_cycle` meets its contract.
 use native.Mathlib.Omega.{arith}
 use Prim.Native.Nat.{◌<◌}
+use Rattle.fairness.proofs.Standard.{capped-topmost}
 use Rattle.model.specs.Book.{cell}
 use Rattle.instance.specs.Terms.{instance_in}
 use Rattle.instance.proofs.Told.{small-proper}
-use Rattle.climb.proofs.Searching.{capped-finds, finds}
+use Rattle.climb.proofs.Searching.{finds}
 use Rattle.climb.proofs.find_cycle.Goals as goal
 
 pub returns-then-caps-seat : goal.returns-then-caps-seat
 returns-then-caps-seat c =
     let a = c.args in
     let place = c.requires.seat_lt_seats in
-    capped-finds (instance_in a.t a.caps.now) (cell a.grid.now) _ _ (small-proper _ _ c.requires.small) c.requires.settled place.0 place.1
-    c.if-caps-seat.true _ c.no_cycle.ensures
+    capped-topmost (instance_in a.t a.caps.now) (small-proper _ _ c.requires.small) (cell a.grid.now) c.requires.settled _ _ place.0 place.1
+    c.if-caps-seat.true
 
 pub returns : goal.returns
 returns c =

@@ -14,7 +14,7 @@ fill-requires c =
 pub settle-requires : goal.settle-requires
 settle-requires c =
     let a = c.args in
-    let f = c.even_out.ensures a.t.supplies c.fill.ensures in record {
+    let f = c.even_out.ensures.kept a.t.supplies c.fill.ensures in record {
       small = c.requires.small;
       full = grid-full a.t a.caps.now _ f;
     }

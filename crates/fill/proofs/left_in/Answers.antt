@@ -1,42 +1,35 @@
--- `fill::left_in` meets its contract. Each turn takes one cell off.
-use borrow.Author.Rules.{rules}
-use native.Mathlib.Omega.{arith}
-use native.Mathlib.Numerals.{add-one}
-use mathlib.Core.Path.{◌≡◌}
-use Prim.Native.Nat.{ℕ, suc, ◌+◌, ◌≤◌, ◌<◌}
+-- `fill::left_in` meets its contract. Each turn takes one seat's cell off.
+use Rattle.std.proofs.Common.{◌≡◌, ap, ℕ, suc, ◌+◌, ◌≤◌, ◌<◌, List, [], length, get_or, take, arith, add-one}
+use Rattle.std.proofs.lemmas.List.{get_or-take, length-take}
 use Rattle.fairness.specs.Sums.{sum}
 use Rattle.fairness.proofs.Sums.{sum-zero, sum-suc, sum_mono}
-use Rattle.model.specs.Book.{cell}
-use Rattle.fill.proofs.left_in.Goals.{After-left-1}
+use Rattle.model.specs.Book.{Grid, cell}
 use Rattle.fill.proofs.left_in.Goals as goal
 
--- the next term is still left of what the terms are below
-term-left : (n : ℕ) (f : ℕ → ℕ) (i left supply : ℕ) → i < n → sum i f + left ≡ supply → sum n f ≤ supply → f i ≤ left
-term-left n f i left supply l e h = omega (arith, sum-suc i f, sum_mono (suc i) n f l)
+module _ (n k j left supply : ℕ) (g : Grid) (h : k < length (take n g)) where
+  within : k < n
+  within = omega (arith, length-take n g)
 
-enough : (c : After-left-1) →
-    let a = c.args in
-    cell a.grid.now c.loop-k.k a.window ≤ c.loop-k.left
-enough c =
-    let a = c.args in
-    let l = c.loop-k in
-    term-left a.seats (λ i. cell a.grid.now i a.window) l.k l.left a.supply (search rules) l.invariant.1
-    c.requires.window_bound
+  -- the next row's cell is the grid's
+  here : cell (take n g) k j ≡ cell g k j
+  here = ap (λ (r : List ℕ). get_or r j 0) (get_or-take n g k [] within)
 
-pub loop-k-init : goal.loop-k-init
-loop-k-init c = (search rules, omega (arith, sum-zero (λ i. cell c.args.grid.now i c.args.window)))
+  -- and it is still left
+  enough : sum k (λ i. cell g i j) + left ≡ supply → sum n (λ i. cell g i j) ≤ supply → cell (take n g) k j ≤ left
+  enough e l = omega (arith, here, sum-suc k (λ i. cell g i j), sum_mono (suc k) n (λ i. cell g i j) within)
 
-pub loop-k-preserved : goal.loop-k-preserved
-loop-k-preserved c =
-    let a = c.args in
-    let l = c.loop-k in
-    let more = sum-suc l.k (λ i. cell a.grid.now i a.window) in
-    (search rules, rw add-one (omega (arith, more, l.invariant.1, enough c)))
-
-pub returns : goal.returns
-returns c =
-    let e : c.loop-k.k ≡ c.args.seats = omega arith in
-    rw (← e) c.loop-k.invariant.1
+pub loop-row-init : goal.loop-row-init
+loop-row-init c = omega (arith, sum-zero (λ i. cell c.args.grid.now i c.args.window))
 
 pub overflow_sub-left : goal.overflow_sub-left
-overflow_sub-left c = enough c
+overflow_sub-left c =
+    let a = c.args in
+    enough a.seats c.loop-row.row-index a.window c.loop-row.left a.supply a.grid.now c.loop-row-test.true c.loop-row.invariant
+    c.requires.window_bound
+
+pub loop-row-preserved : goal.loop-row-preserved
+loop-row-preserved c =
+    let a = c.args in
+    let k = c.loop-row.row-index in
+    let more = sum-suc k (λ i. cell a.grid.now i a.window) in
+    rw add-one (omega (arith, more, here a.seats k a.window 0 0 a.grid.now c.loop-row-test.true, overflow_sub-left c))

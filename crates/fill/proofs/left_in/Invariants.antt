@@ -1,11 +1,8 @@
-use mathlib.Core.Path.{◌≡◌}
-use Prim.Native.Nat.{◌+◌, ◌-◌, ◌≤◌}
+use Rattle.std.proofs.Common.{◌≡◌, ◌+◌}
 use Rattle.fairness.specs.Sums.{sum}
 use Rattle.model.specs.Book.{cell}
 use Rattle.fill.proofs.left_in.Given as goal
 
-abbrev pub invariant-loop-k : goal.invariant-loop-k
-invariant-loop-k l = (l.k ≤ l.seats) × (sum l.k (λ i. cell l.grid i l.window) + l.left ≡ l.supply)
-
-abbrev pub decreases-loop-k : goal.decreases-loop-k
-decreases-loop-k l = l.seats - l.k
+-- what is left and what the seats so far have is the supply
+abbrev pub invariant-loop-row : goal.invariant-loop-row
+invariant-loop-row l = sum l.row-index (λ i. cell l.grid i l.window) + l.left ≡ l.supply

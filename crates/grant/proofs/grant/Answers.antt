@@ -12,10 +12,10 @@ pub settle_short-group-requires : goal.settle_short-group-requires
 settle_short-group-requires c =
     let a = c.args in
     let here = told_in a.t a.caps.now in
-    let None = of_none _ _ _ c.if-alone-ne0.false (c.alone_group-alone.ensures _ here) in record {
+    let none = of_none _ _ _ c.if-alone-ne0.false (c.alone_group-alone.ensures _ here) in record {
       small = c.requires;
       feasible = c.serve.ensures;
-      by_index = alone-small a.t a.caps.now _ here a.wants c.requires None;
+      by_index = alone-small a.t a.caps.now _ here a.wants c.requires none;
     }
 
 pub returns-then-group-ne0 : goal.returns-then-group-ne0

@@ -1,21 +1,21 @@
 -- `lines::put_move_lines` meets its contract.
-use borrow.Author.Rules.{rules}
+use Rattle.std.proofs.Common.{rules, ◌<◌, ◌/◌, length}
 use Rattle.lines.specs.Lines.{move_lines}
-use Rattle.lines.proofs.Growing.{growing-none, growing-room, growing-more, growing-all}
+use Rattle.lines.proofs.Growing.{lines_none, lines_room, lines_more}
+use Rattle.lines.proofs.Moves.{move_of_chunk}
 use Rattle.lines.proofs.put_move_lines.Goals as goal
 
-pub loop-k-init : goal.loop-k-init
-loop-k-init c = growing-none
+pub loop-window-init : goal.loop-window-init
+loop-window-init c = lines_none _
 
-pub put_move_line-next-requires : goal.put_move_line-next-requires
+pub put_move_line-requires : goal.put_move_line-requires
 unfolding move_lines
-put_move_line-next-requires c =
-    growing-room (search rules) c.requires.room c.loop-k.invariant
+put_move_line-requires c =
+    let inside : c.loop-window.window-index < length c.args.moves.now / 3 = search rules in
+    rw (c.as_chunks.ensures.front, move_of_chunk _ _ _ inside) (lines_room _ _ _ inside c.requires c.loop-window.invariant)
 
-pub loop-k-preserved : goal.loop-k-preserved
-loop-k-preserved c =
-    growing-more (search rules) c.loop-k.invariant c.put_move_line-next.ensures
-
-pub returns : goal.returns
-unfolding move_lines
-returns c = growing-all (search rules) c.loop-k.invariant
+pub loop-window-preserved : goal.loop-window-preserved
+loop-window-preserved c =
+    let inside : c.loop-window.window-index < length c.args.moves.now / 3 = search rules in
+    let line = rw (c.as_chunks.ensures.front, move_of_chunk _ _ _ inside) at c.put_move_line.ensures in
+    lines_more _ _ c.loop-window.invariant line

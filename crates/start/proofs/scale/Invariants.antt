@@ -1,10 +1,5 @@
-use Rattle.std.proofs.Common.{◌-◌, ◌≤◌}
 use Rattle.fill.specs.Fills.{Keeps}
 use Rattle.start.proofs.scale.Given as goal
 
 abbrev pub invariant-loop : goal.invariant-loop
-invariant-loop l =
-    (l.counter ≤ 4096) × Keeps l.phase.seats l.phase.windows l.caps l.initial.grid l.grid
-
-abbrev pub decreases-loop : goal.decreases-loop
-decreases-loop l = 4096 - l.counter
+invariant-loop l = Keeps l.size.seats l.size.windows l.caps l.initial.grid l.grid

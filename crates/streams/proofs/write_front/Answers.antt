@@ -3,15 +3,15 @@ use Rattle.std.proofs.lemmas.List.{take_rest}
 use Rattle.std.proofs.KnownBytes.{Appends-trans, Appends-kept}
 use Rattle.streams.proofs.Turns.{front-of, one-more}
 use Rattle.streams.proofs.write_front.Goals as goal
-use Rattle.streams.proofs.write_front.Goals.{in-Ok, in-Err+else-ne}
+use Rattle.streams.proofs.write_front.Goals.{in-Ok, in-Err}
 
 pub returns-in-Ok-eq0-clause-front : goal.returns-in-Ok-eq0-clause-front
 returns-in-Ok-eq0-clause-front g c =
     let (done, split, appended) = c.loop.invariant in
-    front-of _ _ _ _ _ (one-more _ done _ _ split) (Appends-trans _ _ _ _ _ appended c.in-Ok-eq0.ensures.bytes)
+    front-of _ _ _ _ _ (one-more _ done _ _ split) (Appends-trans _ _ _ _ _ appended (rw c.in-Ok-eq0.is at c.write.ensures.bytes))
 
-pub returns-then-ne-clause-front : goal.returns-then-ne-clause-front
-returns-then-ne-clause-front g c =
+pub returns-in-Err-2-clause-front : goal.returns-in-Err-2-clause-front
+returns-in-Err-2-clause-front g c =
     let (done, split, appended) = c.loop.invariant in
     front-of _ _ _ _ _ split (Appends-kept _ _ _ _ appended c.in-Err.ensures.bytes)
 
@@ -26,7 +26,7 @@ loop-preserved g c =
             one-more _ done rest n split ∙ ap (λ l. (done ++ take n rest) ++ l) (sym (ap (λ b. b.now) w.rest-is ∙ take_rest rest n)),
             Appends-trans _ _ _ _ _ appended w.in-Ok.ensures.bytes,
           )
-      | in-Err+else-ne w ↦ (
+      | in-Err w ↦ (
         done,
         split ∙ ap (λ l. done ++ l) (sym (ap (λ b. b.now) w.rest-is)),
         Appends-kept _ _ _ _ appended w.in-Err.ensures.bytes,

@@ -1,25 +1,11 @@
--- `lines::line::put_move_line` meets its contract.
-use Rattle.lists.proofs.Buffers.{room-first, room_next, stored_next}
+use Rattle.text.proofs.Printing.{printing}
 use Rattle.lines.specs.Lines.{move_line}
 use Rattle.lines.proofs.line.put_move_line.Goals as goal
 
-pub put_field-next-requires : goal.put_field-next-requires
-unfolding move_line
-put_field-next-requires c = room-first _ _ (room-first _ _ c.requires)
-
-pub put_field-next-requires-2 : goal.put_field-next-requires-2
-unfolding move_line
-put_field-next-requires-2 c =
-    room_next _ _ (room-first _ _ c.requires) c.put_field-next.ensures
-
 pub put_last_field-requires : goal.put_last_field-requires
 unfolding move_line
-put_last_field-requires c =
-    let two = stored_next c.put_field-next.ensures c.put_field-next-2.ensures in
-    room_next _ _ c.requires two
+put_last_field-requires c = search printing
 
 pub returns : goal.returns
 unfolding move_line
-returns c =
-    let two = stored_next c.put_field-next.ensures c.put_field-next-2.ensures in
-    stored_next two c.put_last_field.ensures
+returns c = search printing
