@@ -14,7 +14,7 @@ ghost use Rattle.fill.specs.Fills.{FeasibleAt, Handed, Filled, Keeps, Passes};
 use instance::Terms;
 pub use paths::{Graph, Transfer, note_all, push};
 use sheet::Grid;
-use sheet::size::Size;
+pub use sheet::size::Size;
 pub use steps::Step;
 
 pub fn lesser(a: u16, b: u16) -> u16

@@ -1,5 +1,5 @@
 // Credits pushed along a path from seat to seat, many at a time.
-ghost use Rattle.std.specs.Prelude.{◌<◌, ◌≤◌};
+ghost use Rattle.std.specs.Prelude.{◌≡◌, ◌<◌, ◌≤◌};
 ghost use Rattle.fill.specs.Fills.{Keeps};
 
 use crate::steps::Step;
@@ -11,7 +11,8 @@ use sheet::size::Size;
 pub trait Graph {
     // The step by which a seat gives.
     fn step(&self, giver: usize) -> Step
-        requires { giver < 32 };
+        requires { giver < 32 }
+        ensures { result.giver ≡ giver };
 
     // Notes what a seat can take and give in a window.
     fn note(&mut self, grid: &Grid, caps: &Grid, seat: usize, window: usize)

@@ -63,7 +63,7 @@ move-le window giver taker hw hg ht =
     let third = last-le (codes " to ") 2 taker (omega arith) in
     simp length-append (omega (arith, first, second, third))
 
-refusal-le : (number offset : ℕ) → number < 2 ^ 64 → offset < 2 ^ 64 → length (refusal_line number offset) ≤ refusal_max
+pub refusal-le : (number offset : ℕ) → number < 2 ^ 64 → offset < 2 ^ 64 → length (refusal_line number offset) ≤ refusal_max
 unfolding refusal_line
 refusal-le number offset hn ho =
     let first = labelled-le (codes "refused ") 19 number (omega arith) in

@@ -1,7 +1,7 @@
 // Which seats a receiver reaches: sets of seats as masks, grown along the moves that are possible.
 #![tactic(auto)]
 
-ghost use Rattle.std.specs.Prelude.{◌↔◌, ℕ, ◌+◌, ◌<◌, length};
+ghost use Rattle.std.specs.Prelude.{◌≡◌, ◌↔◌, ℕ, ◌+◌, ◌<◌, length};
 ghost use Rattle.masks.specs.Sets.{In};
 ghost use Rattle.reach.specs.Graphs.{UnionOver, Reached, Spread, Grown};
 
@@ -40,10 +40,11 @@ pub fn union_over(set: u32, sets: &[u32]) -> u32
 }
 
 impl Graph {
-    // The search outward from a seat, before its first move.
+    // The search outward from a seat, before its first move. It is the same in every graph.
     pub fn start(&self, g: usize) -> Wave
         requires { g < 32 }
-        ensures { Spread self.now g 0 result }
+        ensures here { Spread self.now g 0 result }
+        ensures anywhere { (graph : Graph) → length graph.holders ≡ 24 → Spread graph g 0 result }
     {
         let here = insert(0, g);
         Wave {

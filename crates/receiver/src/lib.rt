@@ -6,6 +6,9 @@ ghost use Rattle.fairness.specs.Numbers.{Moderate};
 ghost use Rattle.masks.specs.Sets.{bit, In};
 ghost use Rattle.reach.specs.Graphs.{Reached};
 
+mod asked;
+
+pub use asked::{first_receiver, wanted_by};
 use fairness::{improves, ties_wrongly};
 use masks::{Members, full, insert, intersect, lowest, minus, remove_lowest, union};
 use reach::Graph;

@@ -28,9 +28,10 @@ fn with_digit(x: u32, c: u8) -> u32 {
     }
 }
 
-// The numbers of a text: whatever is no digit ends one.
+// The numbers of a text: whatever is no digit ends one. A last one that nothing ends does not count.
 pub fn read(text: &[u8], numbers: &mut [u8]) {
-    let texts = text.split(|c| !c.is_ascii_digit());
+    let ended = text.iter().rposition(|c| !c.is_ascii_digit()).unwrap_or(0);
+    let texts = text[..ended].split(|c| !c.is_ascii_digit());
     for (place, digits) in texts.filter(|digits| !digits.is_empty()).enumerate() {
         let x = digits.iter().fold(0, |x, c| with_digit(x, *c));
         put(numbers, place, x);

@@ -8,6 +8,7 @@ use Rattle.receiver.specs.declared.Kind.TheVariants.{Improving, WronglyTied}
 use Rattle.receiver.specs.declared.Score.{Score}
 use Rattle.receiver.specs.Donors.{Donor, NoDonor}
 use Rattle.search.specs.declared.Exchange.{Exchange}
+use Rattle.search.specs.declared.Pair.{Pair}
 
 -- the first receiver that has a donor, and its lowest one
 pub record FirstPair (kind : Kind) (scores : List Score) (graph : Graph) (g l : ℕ) : Type 0 where
@@ -21,9 +22,9 @@ abbrev pub FirstPath : Kind → List Score → Graph → Path → Type 0
 FirstPath kind scores graph x =
     FirstPair kind scores graph x.receiver x.donor × Nearest graph x.receiver x.donor x
 
--- an exchange of a kind with such a path
-abbrev pub FirstOf : Kind → List Score → Graph → Exchange → Type 0
-FirstOf kind scores graph x = (x.kind ≡ kind) × FirstPath kind scores graph x.path
+-- a pair of a kind that is the first
+abbrev pub FirstOf : Kind → List Score → Graph → Pair → Type 0
+FirstOf kind scores graph p = (p.kind ≡ kind) × FirstPair kind scores graph p.receiver p.donor
 
 -- by its kind, what an exchange is that the search finds: one that improves, or, where there is none, one that ties wrongly
 abbrev pub Found : Kind → List Score → Graph → Path → Type 0

@@ -75,7 +75,7 @@ decimal_is n h =
     decimal_by_steps (λ (k : ℕ) (ds : List ℕ). ds ≡ decimal k) (λ k l. sym (decimal_one k l))
     (λ k ds l e. ap (λ (xs : List ℕ). xs ++ ((48 + k % 10) ∷ [])) e ∙ sym (decimal_more k l)) n h
 
-decimal-length : (n : ℕ) → length (decimal n) ≡ width_of n
+pub decimal-length : (n : ℕ) → length (decimal n) ≡ width_of n
 unfolding decimal
 decimal-length n = digits-length (width_of n) n
 

@@ -1,7 +1,7 @@
 // Text at the front of an output buffer: bytes, numbers in decimal, and times of the day.
 #![tactic(auto)]
 
-ghost use Rattle.std.specs.Prelude.{◌≡◌, ◌<◌};
+ghost use Rattle.std.specs.Prelude.{◌≡◌, ◌<◌, length};
 ghost use Rattle.text.specs.Text.{decimal, four_digits, opening_time};
 ghost use Rattle.text.specs.Printing.{Room, Prints};
 
@@ -15,6 +15,16 @@ pub fn opening_time(window: usize) -> u16
 {
     let minutes = 480 + 25 * window;
     (minutes / 60 * 100 + minutes % 60) as u16
+}
+
+// Stores a text in a part of a buffer that is as long. By `copy_from_slice` the archive for C would ask for `memmove`.
+fn store(out: &mut [u8], text: &[u8])
+    requires { length out.old ≡ length text.now }
+    ensures { out.new ≡ text.now }
+{
+    for i in 0..text.len() {
+        out[i] = text[i];
+    }
 }
 
 // Prints to the front of a buffer. What is printed ends at `at`.
@@ -46,7 +56,7 @@ impl<'a> Printer<'a> {
         ensures { Prints self.old text.now self.new }
     {
         let end = self.at + text.len();
-        self.out[self.at..end].copy_from_slice(text);
+        store(&mut self.out[self.at..end], text);
         self.at = end;
     }
 

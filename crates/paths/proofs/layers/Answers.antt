@@ -13,8 +13,13 @@ use Rattle.paths.proofs.layers.Goals.{then-wave-ne0, else-wave-ne0}
 
 pub loop-set-init : goal.loop-set-init
 loop-set-init c =
-    let spread = c.start-wave.ensures in
-    record { so_far = filled-first refl (search rules); spread = spread; growing = growing-first _ _ _ c.requires spread; fits = search rules }
+    let spread = c.start-wave.ensures.here in
+    record {
+      so_far = filled-first refl (search rules);
+      spread = spread;
+      growing = growing-first _ _ _ c.requires spread;
+      fits = search rules;
+    }
 
 pub outward-wave-requires : goal.outward-wave-requires
 outward-wave-requires c = c.loop-set.invariant.spread.few
