@@ -70,8 +70,8 @@ module _ (t : Terms) (caps grid : Grid) (ranged : Ranged t) (scores : List Score
       writable (instance_in t caps) (cell grid) graph (drawn _ _ (told_in t caps) (shows-itself t grid))
       ranged.seats_most ranged.windows_most _ _ x f.1
 
-  finds-kind : (kind : Kind) (x : Path) → Found kind scores graph x → Writable x × ((I : Instance) (S : Sheet) → Told I t caps → Shows t S grid
-      → Answered I S kind x.receiver x.donor (moves_of x))
+  finds-kind : (kind : Kind) (x : Path) → Found kind scores graph x →
+      Writable x × ((I : Instance) (S : Sheet) → Told I t caps → Shows t S grid → Answered I S kind x.receiver x.donor (moves_of x))
   finds-kind Improving x f = (write Improving x f, λ I S told shows. picks Improving I S told shows x f)
   finds-kind WronglyTied x f =
       (write WronglyTied x f.1, λ I S told shows. (lacks Improving I S told shows f.0, picks WronglyTied I S told shows x f.1))

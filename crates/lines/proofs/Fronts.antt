@@ -1,5 +1,6 @@
 -- Lines from the front of an array are those of a slice of it; and lines of the same numbers are the same.
-use Rattle.std.proofs.Common.{◌≡◌, ℕ, zero, suc, ◌+◌, ◌*◌, ◌/◌, ◌<◌, ◌≤◌, List, ◌++◌, length, get_or, take, refl, ap, ap₂, ◌∙◌, arith, length-take-le}
+use Rattle.std.proofs.Common.{◌≡◌, ℕ, zero, suc, ◌+◌, ◌*◌, ◌/◌, ◌<◌, ◌≤◌, List, ◌++◌, length, get_or, take}
+use Rattle.std.proofs.Common.{refl, ap, ap₂, ◌∙◌, arith, length-take-le}
 use Rattle.std.proofs.lemmas.List.{get_or-take}
 use Rattle.lines.specs.Lines.{window_line, seat_line, move_line, lines, window_lines, seat_lines, move_lines}
 

@@ -1,4 +1,4 @@
-// The same of a kind that may be none: for none, nobody is wanted.
+// What the methods of `Kind` answer, of a kind that may be none: for none, nobody is wanted.
 ghost use Rattle.std.specs.Prelude.{◌≡◌, ◌↔◌, ℕ, ◌≤◌, ◌<◌, length, IsNone, MatchOption};
 ghost use Rattle.masks.specs.Sets.{In};
 ghost use Rattle.receiver.specs.Tests.{Wants};

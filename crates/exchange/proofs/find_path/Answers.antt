@@ -25,7 +25,8 @@ right c =
     let at = c.loop-seat in
     let ranged = c.requires.small.ranged in
     let graph = c.graph_of.result in
-    let long : length (take a.t.seats at.scores) ≡ a.t.seats = length-take-le a.t.seats at.scores (omega (arith, ranged.seats_most, at.invariant.size)) in
+    let long : length (take a.t.seats at.scores) ≡ a.t.seats =
+    length-take-le a.t.seats at.scores (omega (arith, ranged.seats_most, at.invariant.size)) in
     let scores = scored a.t a.caps.now a.grid.now at.seat _ at.scores (search rules) at.invariant in
     let moves = drawn (instance_in a.t a.caps.now) (cell a.grid.now) graph c.graph_of.ensures in
     finds-right a.t a.caps.now a.grid.now ranged _ long graph scores

@@ -12,7 +12,8 @@ put_last_field-requires c = rw c.from.ensures (room-first _ _ c.requires.room)
 
 pub put_left_line-requires : goal.put_left_line-requires
 put_left_line-requires c =
-    room_next _ _ (rw (result-left (result_in c.args.res) c.args.moves.now c.if-res-eq1.true) at c.requires.room) (rw c.from.ensures at c.put_last_field.ensures)
+    room_next _ _ (rw (result-left (result_in c.args.res) c.args.moves.now c.if-res-eq1.true) at c.requires.room)
+    (rw c.from.ensures at c.put_last_field.ensures)
 
 pub returns-then-res-eq1 : goal.returns-then-res-eq1
 returns-then-res-eq1 c =
@@ -22,7 +23,8 @@ returns-then-res-eq1 c =
 pub put_move_lines-requires : goal.put_move_lines-requires
 put_move_lines-requires c =
     rw (moves_front c.args.res.moves _ c.requires.moves_in_bounds)
-    (room_next _ _ (rw (result-moves (result_in c.args.res) c.args.moves.now c.if-res-eq1.false) at c.requires.room) (rw c.from.ensures at c.put_last_field.ensures))
+    (room_next _ _ (rw (result-moves (result_in c.args.res) c.args.moves.now c.if-res-eq1.false) at c.requires.room)
+    (rw c.from.ensures at c.put_last_field.ensures))
 
 pub returns-else-res-eq1 : goal.returns-else-res-eq1
 returns-else-res-eq1 c =

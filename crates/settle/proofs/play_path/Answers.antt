@@ -18,7 +18,8 @@ pub play-after-requires : goal.play-after-requires
 play-after-requires c =
     let l = c.loop-m in
     let here = items-long c.args.path.now _ l.invariant.items in
-    this _ _ l.m-index (credit l.after) l.invariant.played (omega (arith, here)) _ _ (item-is c.args.path.now _ l.invariant.items l.m-index _)
+    this _ _ l.m-index (credit l.after) l.invariant.played (omega (arith, here)) _ _
+    (item-is c.args.path.now _ l.invariant.items l.m-index _)
 
 pub loop-m-preserved : goal.loop-m-preserved
 loop-m-preserved c =
